@@ -1,0 +1,5 @@
+pub mod Chains
+pub mod Reading
+pub mod Tables
+pub mod Theorems
+pub mod Faults
