@@ -1,0 +1,5 @@
+pub mod Finishing
+pub mod Gathering
+pub mod Nesting
+pub mod Settling
+pub mod Whole
