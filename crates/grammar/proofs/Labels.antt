@@ -1,14 +1,13 @@
 -- The board by its bits: each argument, rule and production adds those of its own arcs.
 use mathlib.Core.Path.{_≡_, refl, sym, ap, subst, _∙_}
-use mathlib.Core.Bool.{Bool, true, false, cond}
+use mathlib.Core.Bool.{Bool, true, false}
 use mathlib.Core.List.{List, [], _∷_}
-use mathlib.Core.Logic.{_⊎_, inl, inr, ⊎-elim, _≢_}
-use Prim.Native.Nat.{ℕ, _+_, _-_, _*_, _<_, _≤_}
+use mathlib.Core.Logic.{_⊎_, inl, inr, ⊎-elim}
+use Prim.Native.Nat.{ℕ, _<_, _≤_}
 use native.Mathlib.Omega.{arith}
 use lib.Bits.{bitOr}
-use lib.ListN.{length, getD, set, replicate, getD-replicate, length-set, length-replicate}
+use lib.ListN.{length, getD, set, replicate, getD-replicate, length-set}
 use lib.Seq.{getD-set-same, getD-set-other}
-use Rattle.std.specs.Orderings.{Decides}
 use Rattle.std.proofs.shelf.Tests.{cases-bool, cases-eq, both-ways, or-cases, or-left, or-right}
 use Rattle.grammar.specs.declared.production.Occurrence.{Occurrence}
 use Rattle.grammar.specs.Members.{_∈_}
@@ -59,6 +58,7 @@ On-board a = (1 ≤ a) × (a ≤ 64)
 
 -- two attributes, and the bits that are looked for at their place
 module _ (v : Vocabulary) (mark a b : ℕ) (a-on : On-board a) (b-on : On-board b) where
+  -- one of the bits stands there
   abbrev pub test : List ℕ → Bool
   test board = labelled board mark a b
 
@@ -69,6 +69,7 @@ module _ (v : Vocabulary) (mark a b : ℕ) (a-on : On-board a) (b-on : On-board 
     pub sets : target .attribute ≡ b
     pub bits : marked mark (label (argument .position) (target .position)) ≡ true
 
+  -- some argument of a rule, or of a rule of a production, is such an arc
   abbrev pub Rule-adds : Rule → Type 0
   Rule-adds r = Some-adds (Arc-adds (r .target)) (r .arguments)
 
@@ -76,7 +77,7 @@ module _ (v : Vocabulary) (mark a b : ℕ) (a-on : On-board a) (b-on : On-board 
   Production-adds p = Some-adds Rule-adds (p .rules)
 
   place-tells : (c d : ℕ) → On-board c → On-board d → board-place a b ≡ board-place c d → (c ≡ a) × (d ≡ b)
-  place-tells c d c-on d-on e = (omega (arith, a-on .0, a-on .1, b-on .0, b-on .1, c-on .0, c-on .1, d-on .0, d-on .1), omega (arith, a-on .0, a-on .1, b-on .0, b-on .1, c-on .0, c-on .1, d-on .0, d-on .1))
+  place-tells c d c-on d-on e = (omega arith, omega arith)
 
   place-on : board-place a b < 4096
   place-on = omega (arith, a-on .0, a-on .1, b-on .0, b-on .1)
@@ -96,7 +97,7 @@ module _ (v : Vocabulary) (mark a b : ℕ) (a-on : On-board a) (b-on : On-board 
           let is = ap (marked mark) (set-joins board _ _ bits (omega (arith, place-on, long)) same-place) ∙ marked-join mark (getD board (board-place a b) 0) bits in
           record {
             long = length-set board _ _ ∙ long;
-            told = λ h. ⊎-elim inl (λ h. inr (record { not-given = not-given; takes = arc .0; sets = arc .1; bits = h })) (or-cases _ _ (sym is ∙ h));
+            told = λ h. ⊎-elim inl (λ new. inr (record { not-given = not-given; takes = arc .0; sets = arc .1; bits = new })) (or-cases _ _ (sym is ∙ h));
             still = λ h. is ∙ or-left (test board) (marked mark bits) h;
             added = λ s. is ∙ or-right (test board) (marked mark bits) (s .bits);
           }

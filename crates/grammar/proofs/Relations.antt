@@ -10,15 +10,14 @@ use lib.ListN.{length, replicate, length-replicate}
 use Rattle.std.specs.Orderings.{Decides}
 use Rattle.std.proofs.shelf.Tests.{both-ways, and-parts, ltb-true, leb-true}
 use Rattle.std.proofs.shelf.Ways.{decides-like}
-use Rattle.plans.specs.declared.Direction.{Direction}
 use Rattle.grammar.specs.declared.production.Occurrence.{Occurrence}
 use Rattle.grammar.specs.Members.{_∈_}
 use Rattle.grammar.specs.Grammar.{Vocabulary, Rule, Production, Grammar, attribute, given, names, occurs}
-use Rattle.grammar.specs.Lawful.{LawfulVocabulary, LawfulRule, LawfulProduction, Lawful, Used}
-use Rattle.grammar.specs.Arcs.{Arc, Precedes, Barred, Ahead, precedence, bar, label, labelled, board-of}
+use Rattle.grammar.specs.Lawful.{LawfulRule, LawfulProduction, Lawful, Used}
+use Rattle.grammar.specs.Arcs.{Arc, precedence, bar, label, labelled, board-of}
 use Rattle.grammar.specs.ArcTheorems.{Labels-stand-for-relations, Same-position-is-barred-both-ways, Given-precedes-nothing}
 use Rattle.grammar.proofs.Bits.{marked, label-precedes, label-decides}
-use Rattle.grammar.proofs.Labels.{On-board, Arc-adds, Production-adds, Rules-on-board, Some-adds, blank, productions-add}
+use Rattle.grammar.proofs.Labels.{On-board, Production-adds, Some-adds, blank, productions-add}
 use Rattle.grammar.proofs.Members.{all-member}
 
 named-on-board : (count n : ℕ) → count ≤ 64 → names count n ≡ true → On-board n

@@ -1,5 +1,5 @@
 -- The slot of an occurrence in range has its rule's number.
-use mathlib.Core.Path.{_≡_, refl}
+use mathlib.Core.Path.{refl}
 use native.Mathlib.Omega.{arith}
 use Rattle.grammar.specs.Rules.{Within}
 use Rattle.grammar.proofs.FoundRules.{without-rule, names-rule, with-rule}
