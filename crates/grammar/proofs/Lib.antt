@@ -6,3 +6,4 @@ pub mod Labels
 pub mod Members
 pub mod Relations
 pub mod Slots
+pub mod Wants

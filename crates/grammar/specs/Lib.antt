@@ -5,4 +5,5 @@ pub mod Lookup
 pub mod Lawful
 pub mod Arcs
 pub mod ArcTheorems
+pub mod Numberings
 pub mod Books

@@ -12,6 +12,7 @@ pub use board::Board;
 pub use board::arc_label;
 pub use book::Book;
 pub use numbers::unnumbered;
+pub use numbers::wanting;
 pub use production::Occurrence;
 pub use production::Production;
 pub use production::Rule;

@@ -1,8 +1,11 @@
 // The numbers of attributes before any pass is planned.
 ghost use mathlib.Core.Path.{_≡_};
-ghost use Prim.Native.Nat.{_≤_};
+ghost use Prim.Native.Nat.{ℕ, _≤_};
+ghost use lib.Dec.{ltb};
 ghost use lib.ListN.{length, take};
-ghost use Rattle.grammar.specs.Books.{unnumbered};
+ghost use mathlib.Core.Bool.{_&&_};
+ghost use Rattle.bitset.specs.Sets.{has};
+ghost use Rattle.grammar.specs.Books.{unnumbered, wanting-at};
 ghost use Rattle.grammar.specs.Grammar.{given};
 use crate::vocabulary::Attribute;
 use crate::vocabulary::AttributeKind;
@@ -35,4 +38,18 @@ fn is_given(kind: AttributeKind) -> bool
         AttributeKind::Given => true,
         AttributeKind::Inherited | AttributeKind::Synthesized => false,
     }
+}
+
+// The attributes that want a number, those that are not given, as a set with bit a - 1. Attributes past the
+// most that a grammar may have are not looked at.
+pub fn wanting(attributes: &[Attribute]) -> u64
+    ensures { λ r. ⌜ ((p : ℕ) → has r p ≡ (ltb p 64 && wanting-at (now (attributes .entry)) p)) ⌝ }
+{
+    let mut wanted = 0;
+    for place in 0..attributes.len().min(MOST_ATTRIBUTES) {
+        if !is_given(attributes[place].kind) {
+            wanted = bitset::with(wanted, place as u32);
+        }
+    }
+    wanted
 }

@@ -1,17 +1,24 @@
 -- The whole of a reading from its parts, as the code comes by them, and what it says of the table.
 use mathlib.Core.Path.{_≡_, refl, sym, ap, subst, _∙_}
 use mathlib.Core.Logic.{_⊎_, inl, inr}
-use mathlib.Core.Bool.{Bool, true, false, cond}
-use mathlib.Core.List.{List, map}
-use Prim.Native.Nat.{ℕ}
+use mathlib.Core.Bool.{Bool, true, false, cond, _&&_}
+use mathlib.Core.List.{List, [], map}
+use Prim.Native.Nat.{ℕ, _≤_}
 use native.Mathlib.Omega.{arith}
-use lib.ListN.{replicate}
+use lib.Dec.{ltb}
+use lib.ListN.{length, replicate}
 use Rattle.std.proofs.shelf.Tests.{cond-true, cond-false}
 use Rattle.std.specs.declared.result.Result.{Result}
 use Rattle.std.specs.declared.result.Result.the-variants.{Ok, Err}
 use Rattle.refusal.specs.declared.Refusal.{Refusal}
 use Rattle.refusal.specs.declared.Refusal.the-variants.{NoSuch, OutOfMemory}
 use Rattle.grammar.specs.declared.vocabulary.Vocabulary.{Vocabulary as VocabularyCode}
+use Rattle.bitset.specs.Sets.{has}
+use Rattle.grammar.specs.declared.vocabulary.Attribute.{Attribute}
+use Rattle.grammar.specs.Books.{unnumbered, wanting-at}
+use Rattle.grammar.specs.Lawful.{Lawful}
+use Rattle.grammar.specs.Numberings.{Numbered}
+use Rattle.grammar.proofs.Wants.{not-numbered, wanted-few}
 use Rattle.grammar.specs.Grammar.{Vocabulary, Production, Grammar, vocabulary-view, is-inner}
 use Rattle.tables.specs.declared.record.Record.{Record}
 use Rattle.tables.specs.Chains.{and-then, record-at, sized}
@@ -78,3 +85,12 @@ module _ (bytes : List ℕ) (admitted : ℕ → ℕ → ℕ → Bool) (H : Recor
       pub all-read : (ps : List Production) (s' : List Bool) → productions bytes (vocabulary-view v) admitted (H .w1) s ≡ Ok (ps, s')
           → reading bytes admitted ≡ Ok (record { vocabulary = vocabulary-view v; productions = ps })
       all-read ps s' h = onwards (Ok (ps, s')) h ∙ ap {B = Result Grammar Refusal} (λ w. Ok (record { vocabulary = w; productions = ps })) (sym same)
+
+-- a book just loaded has no numbers, as the code finds them over slices of its attributes
+pub fresh-book : (g : Grammar) → Lawful g → (numbers : List ℕ) (wanted : ℕ) (first second : List Attribute) → first ≡ g .vocabulary .attributes → second ≡ g .vocabulary .attributes
+    → (length first ≤ 64 → numbers ≡ unnumbered first) → ((p : ℕ) → has wanted p ≡ (ltb p 64 && wanting-at second p)) → Numbered g [] numbers 0 wanted
+fresh-book g lawful numbers wanted first second e f names bits =
+    let few = lawful .vocabulary .few-attributes in
+    let are : numbers ≡ unnumbered (g .vocabulary .attributes) = subst (λ xs. length xs ≤ 64 → numbers ≡ unnumbered xs) e names few in
+    let its = subst (λ xs. (p : ℕ) → has wanted p ≡ (ltb p 64 && wanting-at xs p)) f bits in
+    subst (λ ns. Numbered g [] ns 0 wanted) (sym are) (not-numbered g lawful wanted (λ p. its p ∙ wanted-few (g .vocabulary .attributes) p few))

@@ -10,8 +10,11 @@ use crate::productions::read_productions;
 use crate::symbols::read_vocabulary;
 use grammar::Book;
 use grammar::board::BOARD_PLACES;
+use grammar::book::MOST_PASSES;
 use grammar::unnumbered;
+use grammar::wanting;
 use kinds::ValueKind;
+use plans::Direction;
 use refusal::Refusal;
 use std::alloc::Global;
 use tables::Table;
@@ -24,7 +27,7 @@ pub fn load<K: ValueKind>(heap: Global, bytes: &[u8], kind: &K) -> Result<Book, 
     ensures reading { λ r. ⌜ Loads r (reading (now (bytes .entry)) (K·ValueKind .admitted (now (kind .entry)))) ⌝ }
     ensures judges { λ r. ⌜ Judges (now (bytes .entry)) (K·ValueKind .admitted (now (kind .entry))) r ⌝ }
     ensures numbers { λ r. ⌜ made r (λ b. b .numbers ≡ unnumbered-of (vec-items (b .vocabulary .attributes))) ⌝ }
-    ensures passes { λ r. ⌜ made r (λ b. b .passes ≡ 0) ⌝ }
+    ensures passes { λ r. ⌜ made r (λ b. (b .passes ≡ 0) × (b .planned ≡ 0)) ⌝ }
 {
     if !is_sized(bytes) {
         return Err(Refusal::TableSize);
@@ -47,11 +50,15 @@ pub fn load<K: ValueKind>(heap: Global, bytes: &[u8], kind: &K) -> Result<Book, 
         head.w1,
     )?;
     let numbers = unnumbered(vocabulary.attributes.as_slice());
+    let wanted = wanting(vocabulary.attributes.as_slice());
     Ok(Book {
         vocabulary,
         productions,
         arcs,
         numbers,
         passes: 0,
+        unnumbered: wanted,
+        directions: [Direction::Left; MOST_PASSES],
+        planned: 0,
     })
 }

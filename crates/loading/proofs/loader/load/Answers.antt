@@ -9,7 +9,7 @@ use Rattle.std.proofs.shelf.Results.{err-from-errBy}
 use Rattle.grammar.specs.Grammar.{production-view}
 use Rattle.grammar.specs.Books.{unnumbered}
 use Rattle.tables.proofs.Accepting.{accepted-is-lawful}
-use Rattle.loading.proofs.Whole.{acceptable, judged-refusal, symbols-refused, start-bad, productions-refused, all-read}
+use Rattle.loading.proofs.Whole.{acceptable, judged-refusal, symbols-refused, start-bad, productions-refused, all-read, fresh-book}
 use Rattle.loading.proofs.loader.load.Needs as need
 
 pub returns-in-Break-vocabulary : need.returns-in-Break-vocabulary
@@ -41,7 +41,9 @@ ghost-result g c =
     let admitted = g .K·ValueKind .admitted (c .args .kind .now) in
     let read = all-read bytes admitted (c .head-head .result) (c .head-head .ensures) (c .if-not-is-sized .ensures tt .value) (c .in-Continue-vocabulary .vocabulary) (c .in-Continue-vocabulary .ensures tt .start) (c .read-vocabulary .last .reached) (c .in-Continue-vocabulary .ensures tt .value) (c .if-not-is-inner .ensures tt)
     (map production-view (vec-items (c .in-Continue-productions .productions))) (c .read-productions .last .reached) (c .in-Continue-productions .ensures tt .value) in
-    (∣ accepted-is-lawful bytes admitted _ read .1 ∣₁, (c .in-Continue-productions .ensures tt .board, tt))
+    let lawful = accepted-is-lawful bytes admitted _ read .1 in
+    let fresh = fresh-book _ lawful (c .unnumbered-numbers .result) (c .wanting-wanted .result) (c .as-slice .result .now) (c .as-slice-2 .result .now) (c .as-slice .ensures .value) (c .as-slice-2 .ensures .value) (c .unnumbered-numbers .ensures .whole) (c .wanting-wanted .ensures) in
+    (∣ lawful ∣₁, (c .in-Continue-productions .ensures tt .board, (omega arith, (∣ fresh ∣₁, tt))))
 
 pub returns : need.returns
 returns g c =
@@ -54,5 +56,5 @@ returns g c =
       reading = read;
       judges = acceptable bytes admitted _ read;
       numbers = c .unnumbered-numbers .ensures .whole few ∙ ap unnumbered (c .as-slice .ensures .value);
-      passes = refl;
+      passes = (refl, refl);
     }
