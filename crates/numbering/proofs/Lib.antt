@@ -1,0 +1,9 @@
+pub mod BookNumbers
+pub mod Deleting
+pub mod Filling
+pub mod Going
+pub mod GrammarDeletion
+pub mod Relations
+pub mod Stages
+pub mod Sweeps
+pub mod WrittenDirections

@@ -1,0 +1,6 @@
+-- What is in the way, as one set.
+use Rattle.numbering.proofs.Sweeps.{blocked-is}
+use Rattle.numbering.proofs.passes.blocked.Needs as need
+
+pub returns : need.returns
+returns c = blocked-is (c .meets .result) (c .args .predecessors) (c .args .bars) (c .args .waiting) (c .args .candidates) (c .minus .result) (c .minus .ensures) (c .meets .ensures)
