@@ -1,0 +1,5 @@
+pub mod Grammars
+pub mod Numbers
+pub mod Sets
+pub mod Ring
+pub mod Whole
