@@ -1,9 +1,10 @@
 // A case of the trials, and the notation in which it is written on a line:
-//   NAME | KIND | RECORDS | BYTES
-// The records stand between semicolons and their words between blanks; words at the end of a
+//   NAME | KIND PLAN | RECORDS | BYTES
+// PLAN, which may be left out, has a letter L or R for each pass. The records stand between semicolons and their words between blanks; words at the end of a
 // record that are left out are 0. The word `+` is the place of the record behind its own.
 // `*9 1 2` are nine records 1 2, and `*9` nine empty ones. BYTES, which may be left out, adds
 // so many bytes at the end of the table (`+1`) or cuts them off (`-1`).
+use plans::written::Written;
 use std::alloc::AllocError;
 use std::alloc::Global;
 use std::alloc::Refused;
@@ -22,6 +23,7 @@ pub enum Kind {
 #[derive(Drop)]
 pub struct Case {
     pub kind: Kind,
+    pub plan: Option<Written>,
     pub table: Vec<u8>,
 }
 
@@ -30,6 +32,7 @@ pub struct Case {
 pub enum Unreadable {
     Fields,
     Kind,
+    Plan,
     Number,
     Words,
     Memory,
@@ -59,6 +62,7 @@ pub impl fmt::Display for Unreadable as UnreadableDisplay {
             match self {
                 Unreadable::Fields => "fields are missing",
                 Unreadable::Kind => "there is no such value kind",
+                Unreadable::Plan => "there is no such plan",
                 Unreadable::Number => "a number from 0 to 65535 is wanted",
                 Unreadable::Words => "a record has more than six words",
                 Unreadable::Memory => "memory ran out",
@@ -71,18 +75,30 @@ impl Case {
     // The case in what follows the name on a line.
     pub fn read(heap: Global, text: &str) -> Result<Case, Unreadable> {
         let (kind, text) = text.split_once('|').ok_or(Unreadable::Fields)?;
-        let kind = match kind.trim() {
+        let (kind, plan) = kind.trim().split_once(' ').unwrap_or((kind.trim(), ""));
+        let kind = match kind {
             "lengths" => Kind::Lengths,
             "marks" => Kind::Marks,
             _ => return Err(Unreadable::Kind),
         };
+        let plan = plan_of(plan.trim())?;
         let (records, ending) = text.split_once('|').unwrap_or((text, "+0"));
         let mut table = Vec::new(heap);
         for text in records.split(';') {
             add_records(&mut table, text.trim())?;
         }
         resize(&mut table, ending.trim())?;
-        Ok(Case { kind, table })
+        Ok(Case { kind, plan, table })
+    }
+}
+
+fn plan_of(letters: &str) -> Result<Option<Written>, Unreadable> {
+    if letters.is_empty() {
+        return Ok(None);
+    }
+    match Written::new(letters.as_bytes()) {
+        Ok(plan) => Ok(Some(plan)),
+        Err(_) => Err(Unreadable::Plan),
     }
 }
 

@@ -7,11 +7,14 @@ use crate::case::Kind;
 use crate::case::UnreadableDisplay;
 use crate::outcome::Outcome;
 use crate::outcome::OutcomeDisplay;
+use grammar::vocabulary::MOST_ATTRIBUTES;
 use kinds::lengths::Lengths;
 use kinds::lengths::LengthsKind;
 use kinds::marks::Marks;
 use kinds::marks::MarksKind;
 use loading::load;
+use numbering::number;
+use plans::written::WrittenPlan;
 use std::alloc::Global;
 use std::io;
 
@@ -21,9 +24,14 @@ fn outcome_of(heap: Global, case: &Case) -> Outcome {
         Kind::Lengths => load(heap, table, &Lengths),
         Kind::Marks => load(heap, table, &Marks),
     };
-    match loaded {
-        Ok(book) => Outcome::Accepted(book),
-        Err(refusal) => Outcome::Refused(refusal),
+    match (loaded, case.plan) {
+        (Ok(mut book), Some(plan)) => {
+            let mut numbers = [0; MOST_ATTRIBUTES];
+            let answer = number(&mut book, &plan, &mut numbers);
+            Outcome::Numbered(book, answer)
+        }
+        (Ok(book), None) => Outcome::Accepted(book),
+        (Err(refusal), _) => Outcome::Refused(refusal),
     }
 }
 

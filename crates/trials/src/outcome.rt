@@ -1,6 +1,7 @@
 // What came of loading a table, as it is printed.
 ghost use Prim.Native.Nat.{_≤_};
 use grammar::Book;
+use numbering::Outcome as Answer;
 use refusal::Place;
 use refusal::Refusal;
 use std::fmt;
@@ -11,6 +12,7 @@ const MOST_SHOWN: usize = 8;
 #[derive(Drop)]
 pub enum Outcome {
     Accepted(Book),
+    Numbered(Book, Answer),
     Refused(Refusal),
 }
 
@@ -18,6 +20,7 @@ pub impl fmt::Display for Outcome as OutcomeDisplay {
     fn fmt<W: fmt::Write>(&self, f: &mut fmt::Formatter<W>) -> fmt::Result {
         match self {
             Outcome::Accepted(book) => show_book(book, f),
+            Outcome::Numbered(book, answer) => show_numbers(book, *answer, f),
             Outcome::Refused(refusal) => show_refusal(*refusal, f),
         }
     }
@@ -36,6 +39,25 @@ fn show_refusal<W: fmt::Write>(refusal: Refusal, f: &mut fmt::Formatter<W>) -> f
             )
         }
     }
+}
+
+// The numbers of the attributes, the greatest one, and the set of the unnumbered with their count.
+fn show_numbers<W: fmt::Write>(
+    book: &Book,
+    answer: Answer,
+    f: &mut fmt::Formatter<W>,
+) -> fmt::Result {
+    write!(f, "numbers")?;
+    for number in book.numbers.iter().take(book.vocabulary.attributes.len()) {
+        write!(f, " {number}")?;
+    }
+    let passes = answer.passes;
+    let unnumbered = answer.unnumbered;
+    let count = answer.count;
+    write!(
+        f,
+        "; passes {passes}; unnumbered {unnumbered}, {count} of them"
+    )
 }
 
 fn show_book<W: fmt::Write>(book: &Book, f: &mut fmt::Formatter<W>) -> fmt::Result {
