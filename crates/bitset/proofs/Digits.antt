@@ -140,24 +140,9 @@ has-minus x y p hx hy =
     (λ (l : 64 ≤ p). ap (λ b. b && has (2 ^ 64 - 1 - y) p) (has-past 64 x p hx l) ∙ sym (ap (λ b. b && not (has y p)) (has-past 64 x p hx l)))
     (cases-lt p 64)
 
-pub has-below : (k p : ℕ) → has (2 ^ k - 1) p ≡ ltb p k
-has-below k p = ⊎-elim
-    (λ (l : p < k). ap (λ n. has n p) (omega arith) ∙ has-not k 0 p (pow-pos k) l ∙ ap not (has-none p) ∙ sym (lt-ltb p k l))
-    (λ (l : k ≤ p). has-past k (2 ^ k - 1) p (omega (arith, pow-pos k)) l ∙ sym (le-ltb p k l))
-    (cases-lt p k)
-
--- places and bounds within a word, and past it
+-- places within a word, and past it
 pub place-within : (q p : ℕ) → q < 64 → (ltb p 64 && eqb p q) ≡ eqb p q
 place-within q p h = grind (arith, tells)
-
-pub place-past : (q p : ℕ) → 64 ≤ q → (ltb p 64 && eqb p q) ≡ false
-place-past q p h = grind (arith, tells)
-
-pub bound-within : (q p : ℕ) → q < 64 → (ltb p 64 && ltb p q) ≡ ltb p q
-bound-within q p h = grind (arith, tells)
-
-pub bound-past : (q p : ℕ) → 64 ≤ q → (ltb p 64 && ltb p q) ≡ ltb p 64
-bound-past q p h = grind (arith, tells)
 
 pub without-past : (x q p : ℕ) → x < 2 ^ 64 → 64 ≤ q → has x p ≡ (has x p && not (eqb p q))
 without-past x q p h l = ⊎-elim

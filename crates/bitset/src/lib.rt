@@ -23,11 +23,10 @@ pub fn contains(set: u64, place: u32) -> bool
 pub fn with(set: u64, place: u32) -> u64
     ensures { λ r. ⌜ ((p : ℕ) → has r p ≡ (has set p || (ltb p 64 && eqb p place))) ⌝ }
 {
-    if place < PLACES {
-        set | 1 << place
-    } else {
-        set
+    if place >= PLACES {
+        return set;
     }
+    set | 1 << place
 }
 
 // The set less one place.
@@ -47,17 +46,6 @@ pub fn minus(x: u64, y: u64) -> u64
     ensures { λ r. ⌜ ((p : ℕ) → has r p ≡ (has x p && not (has y p))) ⌝ }
 {
     x & !y
-}
-
-// The places of a word that are below a bound.
-pub fn below(bound: u32) -> u64
-    ensures { λ r. ⌜ ((p : ℕ) → has r p ≡ (ltb p 64 && ltb p bound)) ⌝ }
-{
-    if bound < PLACES {
-        (1 << bound) - 1
-    } else {
-        u64::MAX
-    }
 }
 
 // Whether the sets share a place.

@@ -1,5 +1,4 @@
 // Sets at the first place, at the last, and past it.
-use super::below;
 use super::contains;
 use super::first;
 use super::meets;
@@ -31,15 +30,6 @@ fn one_place_more_or_less() -> Result<(), Fail> {
     check_eq(without(5, 1), 5)?;
     check_eq(without(LAST, 63), 0)?;
     check_eq(without(u64::MAX, 64), u64::MAX)
-}
-
-#[test]
-fn bounds() -> Result<(), Fail> {
-    check_eq(below(0), 0)?;
-    check_eq(below(1), 1)?;
-    check_eq(below(63), u64::MAX - LAST)?;
-    check_eq(below(64), u64::MAX)?;
-    check_eq(below(65), u64::MAX)
 }
 
 #[test]

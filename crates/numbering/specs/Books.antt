@@ -3,12 +3,6 @@ use mathlib.Core.Path.{_≡_}
 use Prim.Native.Nat.{ℕ}
 use Rattle.bitset.specs.Sets.{has, many}
 use Rattle.grammar.specs.declared.book.Book.{Book}
-use Rattle.grammar.specs.Books.{grammar-view}
-use Rattle.grammar.specs.Grammar.{Grammar}
-
--- the grammar that a book holds
-abbrev pub grammar-of : Book → Grammar
-grammar-of b = grammar-view (b .vocabulary) (b .productions)
 
 -- The answer has the greatest number of the book, its set of the attributes that have none, and how many these are.
 pub record Reported (b : Book) (passes unnumbered count : ℕ) : Type 0 where

@@ -1,16 +1,16 @@
 // The least numbering of a book's attributes.
 ghost use mathlib.Core.Path.{_≡_};
-ghost use mathlib.Core.Bool.{_&&_, cond, not};
+ghost use mathlib.Core.Bool.{cond};
 ghost use Prim.Native.Nat.{ℕ, _-_, _≤_};
-ghost use lib.Dec.{ltb};
 ghost use lib.ListN.{getD, length, take};
 ghost use Rattle.std.specs.Options.{Cases as BySome};
 ghost use Rattle.bitset.specs.Sets.{has, many, Lowest};
-ghost use Rattle.grammar.specs.Grammar.{given};
 ghost use Rattle.grammar.specs.Numberings.{Least, Numbered, number-of};
-ghost use Rattle.numbering.specs.Books.{grammar-of, Reported, SameGrammar};
+ghost use Rattle.grammar.specs.OfBook.{grammar-of};
+ghost use Rattle.numbering.specs.Books.{Reported, SameGrammar};
 ghost use Rattle.numbering.specs.Places.{place-graph, NumberedPlaces};
 use crate::columns::columns_of;
+use crate::directions::pass_at;
 use crate::directions::write_directions;
 use crate::passes::computed_in;
 use grammar::Attribute;
@@ -94,7 +94,7 @@ fn number_places(
         }
         let direction = directions[place as usize];
         let chosen = computed_in(direction, &predecessors, &left_bars, &right_bars, waiting);
-        let pass = place + 1;
+        let pass = pass_at(place);
         if chosen != 0 {
             passes = pass;
         }

@@ -55,12 +55,16 @@ fn sweep(predecessors: &Columns, bars: &Columns, waiting: u64, candidates: u64) 
     rest
 }
 
-// Whether something waits that precedes the attribute and is no candidate or stands behind a bar.
+// Whether one of the predecessors is in the way.
 fn blocked(predecessors: u64, bars: u64, waiting: u64, candidates: u64) -> bool
     ensures { λ r. ⌜ When r ((p : ℕ) × (has predecessors p ≡ true) × (has waiting p ≡ true) × ((has candidates p && not (has bars p)) ≡ false)) ((p : ℕ) → has predecessors p ≡ true → has waiting p ≡ true → (has candidates p && not (has bars p)) ≡ true) ⌝ }
 {
-    bitset::meets(
-        predecessors,
-        bitset::minus(waiting, candidates) | waiting & bars,
-    )
+    bitset::meets(predecessors, in_the_way(bars, waiting, candidates))
+}
+
+// What waits, except the candidates that stand behind no bar.
+fn in_the_way(bars: u64, waiting: u64, candidates: u64) -> u64
+    ensures { λ r. ⌜ ((p : ℕ) → has r p ≡ (has waiting p && not (has candidates p && not (has bars p)))) ⌝ }
+{
+    bitset::minus(waiting, bitset::minus(candidates, bars))
 }

@@ -7,7 +7,7 @@ use native.Mathlib.Omega.{arith}
 use lib.ListN.{length, length-take}
 use Rattle.std.specs.Of.Vec.{vec-items}
 use Rattle.grammar.specs.Numberings.{number-of, Least, Numbered}
-use Rattle.numbering.specs.Books.{grammar-of}
+use Rattle.grammar.specs.OfBook.{grammar-of}
 use Rattle.numbering.proofs.BookNumbers.{book-least, book-numbered}
 use Rattle.numbering.proofs.numbers.number.Needs as need
 

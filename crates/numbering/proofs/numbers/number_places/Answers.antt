@@ -1,7 +1,9 @@
 -- Each pass numbers what it can compute of the attributes that wait.
 use mathlib.Core.Path.{refl, ap, _∙_}
+use mathlib.Core.Bool.{cond}
 use mathlib.Core.Logic.{inl, inr}
 use native.Mathlib.Omega.{arith}
+use lib.ListN.{getD}
 use Rattle.std.proofs.shelf.Tests.{both-ways}
 use Rattle.bitset.specs.Sets.{has}
 use Rattle.bitset.proofs.Digits.{has-none}
@@ -20,9 +22,10 @@ passes-again c = going-pass (c .args .arcs .now) (c .args .attributes .now) (c .
     (c .passes .inv) (c .columns-of-predecessors .result) (c .columns-of-left-bars .result) (c .columns-of-right-bars .result)
     (c .columns-of-predecessors .ensures) (c .columns-of-left-bars .ensures) (c .columns-of-right-bars .ensures) (c .pre .attributes)
     _ (c .passes-test .taken) refl (c .computed-in-chosen .result) (c .computed-in-chosen .ok) (c .computed-in-chosen .ensures)
-    (c .assign .last .numbers) (c .minus-waiting .result) (c .if-chosen-ne0 .passes) (c .assign .ensures) (c .minus-waiting .ensures)
+    (c .assign .last .numbers) (c .minus-waiting .result) (c .if-chosen-ne0 .passes)
+    (λ p. c .assign .ensures p ∙ ap (λ n. cond (has (c .computed-in-chosen .result) p) n (getD (c .passes .numbers) p 0)) (c .pass-at-pass .ensures)) (c .minus-waiting .ensures)
     (elim (c .if-chosen-ne0 .came) [
-      | then-chosen-ne0 w ↦ inr (omega arith, w .passes-is)
+      | then-chosen-ne0 w ↦ inr (omega arith, w .passes-is ∙ c .pass-at-pass .ensures)
       | else-chosen-ne0 w ↦ inl (w .if-chosen-ne0 .left, w .passes-is)
     ])
 
