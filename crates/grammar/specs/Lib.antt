@@ -7,3 +7,4 @@ pub mod Arcs
 pub mod ArcTheorems
 pub mod Numberings
 pub mod Books
+pub mod OfBook

@@ -9,15 +9,12 @@ use Rattle.std.specs.declared.result.Result.the-variants.{Ok, Err}
 use Rattle.refusal.specs.declared.Refusal.{Refusal}
 use Rattle.refusal.specs.declared.Refusal.the-variants.{OutOfMemory}
 use Rattle.grammar.specs.declared.book.Book.{Book}
-use Rattle.grammar.specs.Books.{grammar-view}
+use Rattle.grammar.specs.OfBook.{grammar-of}
 use Rattle.grammar.specs.Grammar.{Grammar}
 use Rattle.grammar.specs.Lawful.{Lawful}
 use Rattle.tables.specs.Chains.{Sized}
 use Rattle.tables.specs.Tables.{Outline, Stands, Admitted}
 use Rattle.tables.specs.Faults.{Fault}
-
-abbrev pub grammar-of : Book → Grammar
-grammar-of b = grammar-view (b .vocabulary) (b .productions)
 
 -- what is returned is what reading gives: the grammar, or the first fault, unless memory failed
 abbrev pub Loads : Result Book Refusal → Result Grammar Refusal → Type 0
