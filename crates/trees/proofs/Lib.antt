@@ -1,0 +1,15 @@
+pub mod Outcomes
+pub mod Marks
+pub mod Growing
+pub mod Accepting
+pub mod Lists
+pub mod Symbols
+pub mod Parents
+pub mod Cells
+pub mod Paths
+pub mod Comes
+pub mod Marking
+pub mod Refusing
+pub mod BookParts
+pub mod Children
+pub mod Rows

@@ -1,0 +1,6 @@
+pub mod Checking
+pub mod Outcomes
+pub mod Trees
+pub mod Theorems
+pub mod Laws
+pub mod Faults
