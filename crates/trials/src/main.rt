@@ -7,6 +7,7 @@ use crate::case::Kind;
 use crate::case::UnreadableDisplay;
 use crate::outcome::Outcome;
 use crate::outcome::OutcomeDisplay;
+use grammar::Book;
 use grammar::vocabulary::MOST_ATTRIBUTES;
 use kinds::lengths::Lengths;
 use kinds::lengths::LengthsKind;
@@ -17,6 +18,7 @@ use numbering::number;
 use plans::written::WrittenPlan;
 use std::alloc::Global;
 use std::io;
+use trees::check_tree;
 
 fn outcome_of(heap: Global, case: &Case) -> Outcome {
     let table = case.table.as_slice();
@@ -24,15 +26,26 @@ fn outcome_of(heap: Global, case: &Case) -> Outcome {
         Kind::Lengths => load(heap, table, &Lengths),
         Kind::Marks => load(heap, table, &Marks),
     };
-    match (loaded, case.plan) {
-        (Ok(mut book), Some(plan)) => {
-            let mut numbers = [0; MOST_ATTRIBUTES];
-            let answer = number(&mut book, &plan, &mut numbers);
-            Outcome::Numbered(book, answer)
-        }
-        (Ok(book), None) => Outcome::Accepted(book),
-        (Err(refusal), _) => Outcome::Refused(refusal),
+    match loaded {
+        Ok(book) => tried(book, case),
+        Err(refusal) => Outcome::Refused(refusal),
     }
+}
+
+// What comes of the case's nodes or plan, if it has any.
+fn tried(mut book: Book, case: &Case) -> Outcome {
+    if let Some(nodes) = &case.nodes {
+        return match check_tree(&book, nodes.as_slice()) {
+            Ok(()) => Outcome::Tree,
+            Err(refusal) => Outcome::Refused(refusal),
+        };
+    }
+    let Some(plan) = case.plan else {
+        return Outcome::Accepted(book);
+    };
+    let mut numbers = [0; MOST_ATTRIBUTES];
+    let answer = number(&mut book, &plan, &mut numbers);
+    Outcome::Numbered(book, answer)
 }
 
 // A line that is no case is reported, and the run goes on.

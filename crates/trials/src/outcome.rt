@@ -13,6 +13,7 @@ const MOST_SHOWN: usize = 8;
 pub enum Outcome {
     Accepted(Book),
     Numbered(Book, Answer),
+    Tree,
     Refused(Refusal),
 }
 
@@ -20,6 +21,7 @@ pub impl fmt::Display for Outcome as OutcomeDisplay {
     fn fmt<W: fmt::Write>(&self, f: &mut fmt::Formatter<W>) -> fmt::Result {
         match self {
             Outcome::Accepted(book) => show_book(book, f),
+            Outcome::Tree => f.write_str("a derivation tree"),
             Outcome::Numbered(book, answer) => show_numbers(book, *answer, f),
             Outcome::Refused(refusal) => show_refusal(*refusal, f),
         }
