@@ -28,7 +28,7 @@ use refusal::RefusalFromRefused;
 use tables::Record;
 
 // Adds the argument at a record to the rule for `target`, and its label to the board.
-pub fn add_argument(
+pub(crate) fn add_argument(
     vocabulary: &Vocabulary,
     left: u16,
     right: &[u16],
@@ -70,7 +70,7 @@ pub fn add_argument(
 }
 
 // Adds the rule at a record, whose target and arguments are read.
-pub fn add_rule<K: ValueKind>(
+pub(crate) fn add_rule<K: ValueKind>(
     kind: &K,
     rules: &mut Vec<Rule>,
     slots: &mut [u16; SLOTS],
@@ -156,7 +156,7 @@ fn is_complete(vocabulary: &Vocabulary, left: u16, right: &[u16], slots: &[u16; 
 }
 
 // Adds the production at a record, whose right side and rules are read.
-pub fn add_production(
+pub(crate) fn add_production(
     vocabulary: &Vocabulary,
     productions: &mut Vec<Production>,
     right: Vec<u16>,

@@ -17,7 +17,7 @@ use refusal::Refusal;
 use tables::Record;
 
 // Whether a word names an inner symbol.
-pub fn is_inner(vocabulary: &Vocabulary, word: u16) -> bool
+pub(crate) fn is_inner(vocabulary: &Vocabulary, word: u16) -> bool
     ensures { λ r. ⌜ r ≡ is-inner (vocabulary-view (now (vocabulary .entry))) word ⌝ }
 {
     let n = word as usize;
@@ -28,14 +28,14 @@ pub fn is_inner(vocabulary: &Vocabulary, word: u16) -> bool
 }
 
 // Whether a word names a symbol that may stand on a right side.
-pub fn is_inside(vocabulary: &Vocabulary, word: u16) -> bool
+pub(crate) fn is_inside(vocabulary: &Vocabulary, word: u16) -> bool
     ensures { λ r. ⌜ r ≡ inside (vocabulary-view (now (vocabulary .entry))) word ⌝ }
 {
     word != 0 && word as usize <= vocabulary.symbols.len() && word != vocabulary.start
 }
 
 // The kind of an occurrence's attribute, or none where there is no such occurrence.
-pub fn occurring_kind(
+pub(crate) fn occurring_kind(
     vocabulary: &Vocabulary,
     left: u16,
     right: &[u16],
@@ -66,7 +66,7 @@ pub fn occurring_kind(
 }
 
 // Whether an occurrence at the position is defined, if its attribute is of the kind.
-pub fn is_defined(kind: AttributeKind, position: u16) -> bool
+pub(crate) fn is_defined(kind: AttributeKind, position: u16) -> bool
     ensures { λ r. ⌜ r ≡ defined-at kind position ⌝ }
 {
     match kind {
@@ -77,7 +77,7 @@ pub fn is_defined(kind: AttributeKind, position: u16) -> bool
 }
 
 // The slot of an occurrence in a production.
-pub fn slot_of(occurrence: Occurrence) -> usize
+pub(crate) fn slot_of(occurrence: Occurrence) -> usize
     requires { ⌜ 1 ≤ occurrence .attribute ⌝ }
     ensures { λ r. ⌜ r ≡ slot occurrence ⌝ }
 {
@@ -85,7 +85,7 @@ pub fn slot_of(occurrence: Occurrence) -> usize
 }
 
 // The target of the rule at a record, where a rule for it may stand.
-pub fn check_target(
+pub(crate) fn check_target(
     vocabulary: &Vocabulary,
     left: u16,
     right: &[u16],

@@ -71,7 +71,7 @@ fn read_right_side(
 }
 
 // The productions of the chain that begins at `first`. The first fault stops all reading.
-pub fn read_productions<K: ValueKind>(
+pub(crate) fn read_productions<K: ValueKind>(
     heap: Global,
     table: &Table,
     reached: &mut Reached,

@@ -86,7 +86,7 @@ fn read_attributes(
 }
 
 // The symbols of the chain that begins at `first`, with their attributes.
-pub fn read_vocabulary(
+pub(crate) fn read_vocabulary(
     heap: Global,
     table: &Table,
     reached: &mut Reached,
