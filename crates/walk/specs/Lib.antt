@@ -1,0 +1,9 @@
+pub mod Values
+pub mod Programs
+pub mod Positions
+pub mod Walks
+pub mod Turns
+pub mod Paths
+pub mod Instances
+pub mod Passes
+pub mod Evaluation
