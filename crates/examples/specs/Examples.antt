@@ -1,4 +1,4 @@
--- What the worked examples come to: the numbers that the total, the start and the width get under some lists of directions.
+-- What the worked examples come to: the numbers that the total, the start and the width get under some lists of directions, and the values of a score.
 use mathlib.Core.Path.{_≡_}
 use mathlib.Core.List.{List, [], _∷_}
 use Prim.Native.Nat.{ℕ, _≤_, _<_}
@@ -13,6 +13,7 @@ use Rattle.grammar.specs.Numberings.{Valid, Numbered}
 use Rattle.tables.specs.Reading.{reading}
 use Rattle.numbering.specs.GrammarGraph.{grammar-numbering}
 use Rattle.examples.specs.Books.{table-bytes, total, start, width, P, Q, S, T}
+use Rattle.examples.specs.Scores.{P-values, Q-values}
 
 -- the attribute has the number, which is that of a pass
 abbrev pub Has-number : Grammar → List Direction → ℕ → ℕ → Type 0
@@ -75,12 +76,16 @@ pub record T-numbers (g : Grammar) : Type 0 where
   -- after it, a left pass computes everything
   pub right-left : All-have g (Right ∷ Left ∷ []) 2
 
--- The four tables are accepted, and their attributes get these numbers.
+-- The four tables are accepted, their attributes get these numbers, and a score gets its values.
 pub record Worked-examples : Type 0 where
   -- the first start is 0, and the second is taken from the first width
   pub book-P : Read-to P P-numbers
+  -- a score with notes 10 and 20, under one left pass
+  pub score-P : Read-to P P-values
   -- P with the first start taken from the second width
   pub book-Q : Read-to Q Q-numbers
+  -- the same score, under a left pass and a right one
+  pub score-Q : Read-to Q Q-values
   -- Q with the width taking the start too
   pub book-S : Read-to S S-numbers
   -- P with the width taking the start too

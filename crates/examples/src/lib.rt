@@ -1,4 +1,4 @@
-// The worked examples: four small tables, and the passes that compute their attributes.
+// The worked examples: four small tables, the passes that compute their attributes, and the values of a score.
 ghost use Rattle.examples.specs.Examples.{Worked-examples};
 
 // The contract is the statement; the value says nothing.
