@@ -115,7 +115,7 @@ derived-in-tree g nodes t st n s p cs (inl e) =
 derived-in-tree g nodes t st n s p cs (inr w) = derived-within g (children-symbols g (t .production)) (t .children) (st .derived) n s p cs w
 
 -- a node that has a production has an inner symbol, and no other node has
-fits-inner : (g : Grammar) (s p : ℕ) → fits g s (suc p) ≡ true → is-inner (g .vocabulary) s ≡ true
+pub fits-inner : (g : Grammar) (s p : ℕ) → fits g s (suc p) ≡ true → is-inner (g .vocabulary) s ≡ true
 fits-inner g s p fit = by-test (is-inner (g .vocabulary) s) fit
   where
     by-test : (b : Bool) → cond b (is-production g s (suc p)) (is-terminal g s && eqb (suc p) 0) ≡ true → b ≡ true

@@ -12,6 +12,7 @@ pub mod Sequence
 pub mod Turning
 pub mod Selections
 pub mod Occurrences
+pub mod InnerNodes
 pub mod Rules
 pub mod Steps
 pub mod OrderedParts

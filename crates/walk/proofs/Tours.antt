@@ -41,7 +41,7 @@ inners-are-numbers (brother k s (suc p) below rest) n (inr m) = inr (elim (in-ei
   | inr r ↦ in-right (numbers below) (numbers rest) n (inners-are-numbers rest n r)
 ])
 
-inners-apart : (f : Forest) → Apart (numbers f) → Apart (inners f)
+pub inners-apart : (f : Forest) → Apart (numbers f) → Apart (inners f)
 inners-apart none a = tt
 inners-apart (brother k s zero below rest) a = inners-apart rest (apart-right (numbers below) (numbers rest) (a .1))
 inners-apart (brother k s (suc p) below rest) a = (

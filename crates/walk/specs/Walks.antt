@@ -1,5 +1,6 @@
 -- The walk of a derivation tree in a direction: the steps of a pass over its inner nodes.
 use mathlib.Core.Path.{_≡_}
+use mathlib.Core.Bool.{true}
 use mathlib.Core.List.{List, [], _∷_, _++_, map}
 use Prim.Native.Nat.{ℕ, zero, suc, _+_, _*_, _<_}
 use lib.ListN.{length}
@@ -8,8 +9,10 @@ use Rattle.std.specs.shelf.Lists.{countBy}
 use Rattle.plans.specs.declared.Direction.{Direction}
 use Rattle.plans.specs.declared.Direction.the-variants.{Left, Right}
 use Rattle.grammar.specs.Members.{_∈_}
-use Rattle.grammar.specs.Grammar.{Grammar}
+use Rattle.grammar.specs.Grammar.{Grammar, is-inner}
+use Rattle.grammar.specs.Lawful.{Lawful}
 use Rattle.trees.specs.declared.node.Node.{Node}
+use Rattle.trees.specs.Checking.{node}
 use Rattle.trees.specs.Trees.{Forest, none, brother, Tree, tree-numbers, Apart, Stands}
 use Rattle.trees.specs.Laws.{Within, Child}
 
@@ -97,6 +100,15 @@ pub record Inside {A : Type 0} (part whole : List A) : Type 0 where
 pub record Once-each (xs these : List ℕ) : Type 0 where
   pub once : (n : ℕ) → n ∈ these → countBy (eqb n) xs ≡ 1
   pub only : (n : ℕ) → n ∈ xs → n ∈ these
+
+-- The inner nodes of a tree that a row holds are the nodes of the row that have inner symbols, each listed once.
+pub record Lists-the-inner-nodes (g : Grammar) (nodes : List Node) (t : Tree) : Type 0 where
+  pub inner : (n : ℕ) → n ∈ inner-nodes t → (n < length nodes) × (is-inner (g .vocabulary) (node nodes n .symbol) ≡ true)
+  pub all : (n : ℕ) → n < length nodes → is-inner (g .vocabulary) (node nodes n .symbol) ≡ true → n ∈ inner-nodes t
+  pub once : Apart (inner-nodes t)
+
+abbrev pub Inner-nodes-have-inner-symbols : Type 0
+Inner-nodes-have-inner-symbols = (g : Grammar) (nodes : List Node) (t : Tree) → Lawful g → Stands g nodes t → Lists-the-inner-nodes g nodes t
 
 -- A walk over N inner nodes has 2N - 1 steps.
 abbrev pub Walk-length : Type 0

@@ -36,6 +36,7 @@ pub use programs::execution_stops_at_the_undefined;
 pub use programs::fulfilment_is_unique;
 pub use values::unadmitted_rules_have_no_value;
 pub use walks::brothers_are_visited_in_order;
+pub use walks::inner_nodes_have_inner_symbols;
 pub use walks::walk_enters_each_once;
 pub use walks::walk_goes_in_turn;
 pub use walks::walk_has_its_steps;

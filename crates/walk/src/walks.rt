@@ -1,6 +1,12 @@
 // What is proved of the walks of a tree, each theorem on the contract of a function.
-ghost use Rattle.walk.specs.Walks.{Walk-length, Walk-enters-each-once, Walk-leaves-each-once, Brothers-are-visited-in-order, Walk-nests};
+ghost use Rattle.walk.specs.Walks.{Inner-nodes-have-inner-symbols, Walk-length, Walk-enters-each-once, Walk-leaves-each-once, Brothers-are-visited-in-order, Walk-nests};
 ghost use Rattle.walk.specs.Turns.{Walk-has-its-steps, Walk-goes-in-turn};
+
+pub fn inner_nodes_have_inner_symbols() -> u8
+    ensures { λ _. ⌜ Inner-nodes-have-inner-symbols ⌝ }
+{
+    0
+}
 
 pub fn walk_length() -> u8
     ensures { λ _. ⌜ Walk-length ⌝ }
