@@ -15,12 +15,14 @@ const RECORD_BYTES: usize = 12;
 // Which records were reached.
 pub type Reached = [bool; MOST_RECORDS];
 
+// The bytes of 1 to 4096 records, none of them cut off.
 #[derive(Drop)]
 pub struct Table<'a> {
     pub bytes: &'a [u8],
     ghost sized: { Sized (bytes .now) },
 }
 
+// A word of the record at a place: two bytes, the low one first.
 fn word_at(bytes: &[u8], place: usize, k: usize) -> u16
     requires { ⌜ 12 * place + 2 * k + 1 < length (now bytes) ⌝ }
     ensures { λ r. ⌜ r ≡ word (now (bytes .entry)) place k ⌝ }

@@ -51,19 +51,19 @@ due g nodes number pass kind n =
     kept-by (λ a. eqb (number a) pass && kind (attribute (g .vocabulary) a .kind)) (attributes-of (g .vocabulary) (node nodes n .symbol))
 
 module _ {V : Type 0} (m : Meaning V) (g : Grammar) (nodes : List Node) where
-  -- what a rule of a node's production says at that node
-  abbrev pub applied : ℕ → Rule → Assignment V
-  applied x r = record {
-    sets = instance-at nodes x (r .target);
-    target = cell-of g nodes (instance-at nodes x (r .target));
+  -- an occurrence in a node's production is set there by a rule
+  abbrev pub applied : ℕ → Occurrence → Rule → Assignment V
+  applied x o r = record {
+    sets = instance-at nodes x o;
+    target = cell-of g nodes (instance-at nodes x o);
     arguments = map (cell-of g nodes) (arguments-at nodes x r);
     value = rule-value m r;
   }
 
-  -- an occurrence at a node is set by its rule; without one the instance has no value
+  -- it is set by its rule; without one the instance has no value
   abbrev pub set-by : ℕ → Occurrence → Option Rule → Assignment V
   set-by x o None = record { sets = instance-at nodes x o; target = cell-of g nodes (instance-at nodes x o); arguments = []; value = λ _. None }
-  set-by x o (Some r) = applied x r
+  set-by x o (Some r) = applied x o r
 
   -- at node x, what sets attribute a at a position of the node's production
   abbrev pub set-at : ℕ → ℕ → ℕ → Assignment V
@@ -95,7 +95,7 @@ pub record Task : Type 0 where
 module _ {V : Type 0} (m : Meaning V) (task : Task) where
   -- what a rule says at a node of the task's tree
   abbrev pub rule-at : ℕ → Rule → Assignment V
-  rule-at x r = applied m (task .grammar) (task .nodes) x r
+  rule-at x r = applied m (task .grammar) (task .nodes) x (r .target) r
 
   -- the assignments of a whole pass
   abbrev pub pass-program : ℕ → List (Assignment V)
