@@ -1,4 +1,6 @@
 // Sets of at most 64 places, each set one word.
+#![tactic(auto)]
+
 ghost use Rattle.std.specs.Prelude.{◌≡◌, ℕ, ◌<◌, ◌≤◌, true, false, not, ◌&&◌, ◌||◌, MatchBool, MatchOption, ◌==◌, nat_lt};
 ghost use Rattle.bitset.specs.Sets.{has, many, Lowest};
 

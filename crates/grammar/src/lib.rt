@@ -1,4 +1,6 @@
 // Attribute grammars, and the book that holds one.
+#![tactic(auto)]
+
 pub mod board;
 pub mod book;
 mod numbers;

@@ -1,4 +1,6 @@
 // Value kinds: what the values of attributes are, and what a rule's operation makes of them.
+#![tactic(auto)]
+
 ghost use Rattle.std.specs.Prelude.{◌≡◌, ℕ, Bool, false, None, Option};
 ghost use Rattle.std.specs.Option.{ok_or};
 

@@ -1,4 +1,6 @@
 // Listings: the attributes of a book with their pass numbers, or why loading was refused.
+#![tactic(auto)]
+
 ghost use Rattle.std.specs.Prelude.{◌≡◌};
 ghost use Rattle.listing.specs.Listing.{answer, filled, listing};
 

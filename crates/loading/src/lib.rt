@@ -1,4 +1,6 @@
 // Loads a book from a table of bytes.
+#![tactic(auto)]
+
 mod additions;
 mod checks;
 mod loader;

@@ -1,4 +1,6 @@
 // Numbers the attributes of a book by the pass that computes them.
+#![tactic(auto)]
+
 mod columns;
 mod directions;
 mod numbers;

@@ -1,5 +1,7 @@
 // Reads a table from standard input, loads it over lengths, numbers its attributes, and prints the listing or
 // the refusal.
+#![tactic(auto)]
+
 use anyhow::anyhow;
 use grammar::Book;
 use grammar::vocabulary::MOST_ATTRIBUTES;

@@ -1,4 +1,6 @@
 // Plans: in which direction each pass walks the derivation tree.
+#![tactic(auto)]
+
 ghost use Rattle.std.specs.Prelude.{◌≡◌, ◌≤◌, List, length};
 ghost use Rattle.plans.specs.Plans.{direction_at, opposite};
 ghost use Rattle.plans.specs.declared.Direction.{Direction};

@@ -1,4 +1,6 @@
 // Why a call is refused: the one fault type of all calls.
+#![tactic(auto)]
+
 ghost use Rattle.std.specs.Prelude.{◌≡◌};
 ghost use Rattle.refusal.specs.Numbers.{number, place};
 ghost use Rattle.refusal.specs.declared.Refusal.TheVariants.{OutOfMemory};

@@ -1,4 +1,6 @@
 // Tables: records in chains, and what it means to read a grammar from them in order.
+#![tactic(auto)]
+
 pub mod record;
 pub mod table;
 mod theorems;

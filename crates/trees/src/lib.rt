@@ -1,4 +1,6 @@
 // Derivation trees: rows of nodes, and the check that one is a tree of a book's grammar.
+#![tactic(auto)]
+
 mod check;
 mod fitting;
 mod laws;

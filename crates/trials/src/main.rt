@@ -1,4 +1,6 @@
 // Loads the table of each case that a line of the standard input holds, and prints what comes of it.
+#![tactic(auto)]
+
 mod case;
 mod outcome;
 

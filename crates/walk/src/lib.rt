@@ -1,4 +1,6 @@
 // The theory of evaluation in passes: walks and paths, straight-line programs, instances and their rules, and what passes come to.
+#![tactic(auto)]
+
 pub mod entry;
 mod evaluation;
 mod instances;
