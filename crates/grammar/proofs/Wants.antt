@@ -1,17 +1,16 @@
 -- Attributes that want a number, and a book that has none yet.
-use Rattle.std.proofs.Common.{◌≡◌, ℕ, zero, suc, ◌+◌, ◌-◌, ◌<◌, ◌≤◌, min, Bool, true, false, cond, not, ◌&&◌, ◌||◌, eqb, ltb, leb, ◌⊎◌, List, [], ◌∷◌, ◌++◌, length, get_or, replicate, sym, refl, ap, ◌∙◌, subst, inl, inr, arith}
+use Rattle.std.proofs.Common.{◌≡◌, ℕ, zero, suc, ◌+◌, ◌-◌, ◌<◌, ◌≤◌, min, Bool, true, false, cond, not, ◌&&◌, ◌||◌, eqb, ltb, leb, List, [], ◌∷◌, length, get_or, replicate, sym, refl, ap, ◌∙◌, subst, inl, inr, arith}
 use lib.ListN.{get_or-replicate}
 use Rattle.std.proofs.lemmas.Bool.{cases_Bool, cases_lt, or_right, and_parts, and_from, and_left, and_right, lt-ltb, le-ltb, ltb-true, leb-true, le-leb, both_ways, not_from_false, not-true, not-false, cond-true, cond-false}
 use Rattle.std.proofs.lemmas.List.{get_or_default, get_or_append_left, get_or-append_right}
 use Rattle.std.proofs.lemmas.Bool.Decides.{eqb_tells}
 use Rattle.bitset.specs.Sets.{has}
-use Rattle.plans.specs.declared.Direction.{Direction}
 use Rattle.grammar.specs.declared.vocabulary.AttributeKind.{AttributeKind}
 use Rattle.grammar.specs.declared.vocabulary.AttributeKind.TheVariants.{Inherited, Synthesized, Given}
 use Rattle.grammar.specs.declared.vocabulary.Attribute.{Attribute}
-use Rattle.grammar.specs.Grammar.{Vocabulary, Grammar, attribute, is_attribute, names, given, defined_at, no_attribute}
+use Rattle.grammar.specs.Grammar.{Grammar, attribute, is_attribute, given, defined_at, no_attribute}
 use Rattle.grammar.specs.Lawful.{Lawful, LawfulProduction, LawfulRule, Used}
-use Rattle.grammar.specs.Arcs.{Arc, Precedes}
+use Rattle.grammar.specs.Arcs.{Precedes}
 use Rattle.grammar.specs.Books.{first_numbers, unnumbered, wanting_at}
 use Rattle.grammar.specs.Numberings.{wants, number_of, Valid, Numbered}
 use Rattle.grammar.proofs.Members.{all_member}
@@ -57,12 +56,12 @@ module _ (attributes : List Attribute) (place : ℕ) (d : Attribute) (here : pla
   wanted_more h s s' p few e f = elim (eqb_tells p place) [
     | inl t ↦ f ∙ or_right (has s p) _ (and_from _ _ (lt-ltb p 64 (omega (arith, t.1))) t.0)
         ∙ sym (and_from _ _ (lt-ltb p (place + 1) (omega (arith, t.1))) (subst (λ q. wanting_at attributes q ≡ true) (sym t.1) (at_place false h)))
-    | inr t ↦ f ∙ ap (λ b. has s p || b) (and_right (ltb p 64) _ t.0) ∙ or-false (has s p) ∙ e ∙ ap (λ b. b && wanting_at attributes p) (elsewhere p t.1)
+    | inr t ↦ f ∙ ap (λ b. has s p || b) (and_right (ltb p 64) _ t.0) ∙ or_false (has s p) ∙ e ∙ ap (λ b. b && wanting_at attributes p) (elsewhere p t.1)
   ]
     where
-      or-false : (b : Bool) → (b || false) ≡ b
-      or-false true = refl
-      or-false false = refl
+      or_false : (b : Bool) → (b || false) ≡ b
+      or_false true = refl
+      or_false false = refl
 
   pub given_more : given (get_or attributes place d).kind ≡ true → (s p : ℕ) → has s p ≡ (ltb p place && wanting_at attributes p) → has s p ≡ (ltb p (place + 1) && wanting_at attributes p)
   given_more h s p e = elim (eqb_tells p place) [

@@ -1,5 +1,5 @@
 -- Precedence between attributes, its bars, and the arc board that keeps both.
-use Rattle.std.specs.Prelude.{◌≡◌, ℕ, ◌+◌, ◌-◌, ◌*◌, ◌≤◌, Bool, true, false, cond, not, ◌&&◌, List, [], ◌∷◌, replicate, ◌==◌, bit_and, bit_or, nat_le, slice_index, slice_set}
+use Rattle.std.specs.Prelude.{◌≡◌, ℕ, ◌+◌, ◌-◌, ◌*◌, ◌≤◌, Bool, false, cond, not, ◌&&◌, List, [], ◌∷◌, replicate, ◌==◌, bit_and, bit_or, nat_le, slice_index, slice_set}
 use Rattle.plans.specs.declared.Direction.{Direction}
 use Rattle.plans.specs.declared.Direction.TheVariants.{Left, Right}
 use Rattle.grammar.specs.declared.production.Occurrence.{Occurrence}

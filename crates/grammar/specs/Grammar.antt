@@ -1,5 +1,5 @@
 -- An attribute grammar: a vocabulary, and productions with their rules.
-use Rattle.std.specs.Prelude.{ℕ, zero, suc, ◌-◌, Bool, true, false, cond, not, ◌&&◌, ◌||◌, List, [], ◌∷◌, map, length, vec_items, ◌==◌, nat_le, nat_lt, slice_index, slice_index_or}
+use Rattle.std.specs.Prelude.{ℕ, zero, suc, ◌-◌, Bool, true, false, not, ◌&&◌, ◌||◌, List, ◌∷◌, map, length, vec_items, ◌==◌, nat_le, nat_lt, slice_index, slice_index_or}
 use Rattle.grammar.specs.declared.vocabulary.SymbolKind.{SymbolKind}
 use Rattle.grammar.specs.declared.vocabulary.SymbolKind.TheVariants.{Inner, Terminal}
 use Rattle.grammar.specs.declared.vocabulary.AttributeKind.{AttributeKind}

@@ -6,7 +6,6 @@ use Rattle.grammar.specs.declared.vocabulary.SymbolKind.TheVariants.{Inner, Term
 use Rattle.grammar.specs.declared.vocabulary.AttributeKind.{AttributeKind}
 use Rattle.grammar.specs.declared.vocabulary.AttributeKind.TheVariants.{Inherited, Synthesized, Given}
 use Rattle.grammar.specs.declared.vocabulary.Symbol.{Symbol}
-use Rattle.grammar.specs.declared.vocabulary.Attribute.{Attribute}
 use Rattle.grammar.specs.declared.production.Occurrence.{Occurrence}
 use Rattle.grammar.specs.Grammar.{Vocabulary, Rule, Production, Grammar, symbol, attribute, is_symbol, is_inner, is_attribute, occurs, defined}
 

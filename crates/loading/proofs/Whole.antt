@@ -1,5 +1,5 @@
 -- The whole of a reading from its parts, as the code comes by them, and what it says of the table.
-use Rattle.std.proofs.Common.{◌≡◌, ℕ, ◌≤◌, Bool, true, false, cond, ◌&&◌, ltb, ◌⊎◌, List, [], map, length, replicate, Ok, Err, Result, sym, refl, ap, ◌∙◌, subst, inl, inr, arith}
+use Rattle.std.proofs.Common.{◌≡◌, ℕ, ◌≤◌, Bool, true, false, ◌&&◌, ltb, ◌⊎◌, List, [], length, replicate, Ok, Err, Result, sym, ap, ◌∙◌, subst, inl, inr, arith}
 use Rattle.std.proofs.lemmas.Bool.{cond-true, cond-false}
 use Rattle.refusal.specs.declared.Refusal.{Refusal}
 use Rattle.refusal.specs.declared.Refusal.TheVariants.{NoSuch, OutOfMemory}
@@ -10,10 +10,10 @@ use Rattle.grammar.specs.Books.{unnumbered, wanting_at}
 use Rattle.grammar.specs.Lawful.{Lawful}
 use Rattle.grammar.specs.Numberings.{Numbered}
 use Rattle.grammar.proofs.Wants.{not_numbered, wanted_few}
-use Rattle.grammar.specs.Grammar.{Vocabulary, Production, Grammar, vocabulary_view, is_inner}
+use Rattle.grammar.specs.Grammar.{Production, Grammar, vocabulary_view, is_inner}
 use Rattle.tables.specs.declared.record.Record.{Record}
 use Rattle.tables.specs.Chains.{and_then, record_at, sized}
-use Rattle.tables.specs.Reading.{Gathered, symbols, productions, over, after_symbols, whole, value, reading}
+use Rattle.tables.specs.Reading.{symbols, productions, over, after_symbols, value, reading}
 use Rattle.tables.proofs.Accepting.{accepted_is_lawful}
 use Rattle.tables.proofs.LawfulTables.{lawful_is_accepted}
 use Rattle.tables.proofs.FaultsWhole.{refusal_names_a_fault}

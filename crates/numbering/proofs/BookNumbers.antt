@@ -7,16 +7,15 @@ use native.Mathlib.Bridge.{le_prop}
 use lib.Bits.{bit_and}
 use Rattle.std.proofs.lemmas.Bool.{both_ways, and_parts, and_right, lt-ltb, ltb-true, leb-true, cond-true, not_from_true}
 use Rattle.std.proofs.lemmas.Bool.Decides.{Decides-at}
-use Rattle.bitset.specs.Sets.{has}
 use Rattle.plans.specs.declared.Direction.{Direction}
 use Rattle.grammar.specs.declared.vocabulary.Attribute.{Attribute}
 use Rattle.grammar.specs.Grammar.{Grammar, attribute, is_attribute, given, no_attribute}
 use Rattle.grammar.specs.Lawful.{Lawful}
 use Rattle.grammar.specs.Arcs.{Precedes, Barred, precedence, bar, labelled, board_of}
-use Rattle.grammar.specs.Numberings.{wants, direction, number_of, Valid, Least, Numbered}
+use Rattle.grammar.specs.Numberings.{wants, direction, number_of, Least, Numbered}
 use Rattle.grammar.proofs.Relations.{labels_stand_for_relations}
 use Rattle.numbering.specs.Graph.{Graph, Arc, ValidOn, LeastOn}
-use Rattle.numbering.specs.Places.{marked, wants_at, place_graph, number_at, NumberedPlaces}
+use Rattle.numbering.specs.Places.{marked, wants_at, place_graph, NumberedPlaces}
 use Rattle.numbering.proofs.Relations.{arc_ends, least_of}
 
 -- a test on places as a test on attributes, which count from 1

@@ -1,11 +1,11 @@
 -- Deletion gives the least numbering.
-use Rattle.std.proofs.Common.{◌≡◌, ℕ, zero, suc, ◌<◌, ◌≤◌, Bool, true, false, cond, not, ◌&&◌, ◌||◌, eqb, ◌⊎◌, List, [], ◌∷◌, length, sym, refl, ap, ◌∙◌, subst, ap₂, inl, inr, ⊎_elim, arith}
+use Rattle.std.proofs.Common.{◌≡◌, ℕ, zero, suc, ◌<◌, ◌≤◌, Bool, true, false, cond, not, ◌&&◌, ◌||◌, eqb, ◌⊎◌, List, [], ◌∷◌, length, sym, refl, ap, ◌∙◌, ap₂, inl, inr, ⊎_elim, arith}
 use Rattle.std.proofs.lemmas.Bool.{both_ways, cases_Bool, cases_lt, and_parts, and_from, or_parts, or_cases, or_left, or_right, eqb-true, eq-eqb, not-true, not-false, cond-true, cond-false}
 use Rattle.plans.specs.declared.Direction.{Direction}
 use Rattle.grammar.specs.Numberings.{direction}
-use Rattle.numbering.specs.Graph.{Graph, Arc, ValidOn, LeastOn}
+use Rattle.numbering.specs.Graph.{Graph}
 use Rattle.numbering.specs.Settled.{Stable, Settled}
-use Rattle.numbering.specs.Deletion.{member, keep, none, blocks, delete, remaining, State, number, after, numbering}
+use Rattle.numbering.specs.Deletion.{member, keep, none, blocks, delete, remaining, number, after, numbering}
 use Rattle.numbering.specs.Theorems.{DeletionIsLeast}
 use Rattle.numbering.proofs.Stages.{Stage, next, finished}
 

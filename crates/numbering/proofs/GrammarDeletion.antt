@@ -1,10 +1,10 @@
 -- Deletion numbers the attributes of a grammar.
-use Rattle.std.proofs.Common.{◌≡◌, ℕ, zero, suc, ◌<◌, ◌≤◌, Bool, true, false, cond, not, ◌&&◌, eqb, List, length, sym, refl, ap, ◌∙◌, subst, ⊎_elim, arith}
-use Rattle.std.proofs.lemmas.Bool.{both_ways, cases_Bool, cases_eq, and_parts, and_left, and_right, or_left, or_right, eq-eqb, cond-true, cond-false, ltb-true, leb-true, not_from_true}
+use Rattle.std.proofs.Common.{◌≡◌, ℕ, zero, suc, ◌≤◌, true, false, cond, ◌&&◌, eqb, List, length, sym, refl, ap, ◌∙◌, subst, ⊎_elim, arith}
+use Rattle.std.proofs.lemmas.Bool.{cases_Bool, cases_eq, and_parts, and_right, or_left, or_right, eq-eqb, cond-true, cond-false, ltb-true, leb-true, not_from_true}
 use Rattle.plans.specs.declared.Direction.{Direction}
 use Rattle.grammar.specs.Grammar.{Grammar}
 use Rattle.grammar.specs.Numberings.{wants, direction}
-use Rattle.numbering.specs.Graph.{Graph, ValidOn, LeastOn}
+use Rattle.numbering.specs.Graph.{Graph, LeastOn}
 use Rattle.numbering.specs.Deletion.{member, keep}
 use Rattle.numbering.specs.GrammarGraph.{graph_of, numbers_to, grammar_numbering}
 use Rattle.numbering.specs.Theorems.{DeletionNumbersGrammars}

@@ -1,6 +1,6 @@
 -- The numbering by deletion. In each pass every attribute that waits for a number is a candidate; candidates that
 -- cannot be had are deleted until none is left to delete; what remains gets the pass's number.
-use Rattle.std.specs.Prelude.{◌≡◌, ℕ, zero, suc, Bool, true, false, cond, not, ◌&&◌, ◌||◌, List, [], ◌∷◌, length, ◌==◌}
+use Rattle.std.specs.Prelude.{ℕ, zero, suc, Bool, true, false, cond, not, ◌&&◌, ◌||◌, List, [], ◌∷◌, length, ◌==◌}
 use Rattle.plans.specs.declared.Direction.{Direction}
 use Rattle.numbering.specs.Graph.{Graph}
 use Rattle.grammar.specs.Numberings.{direction}

@@ -1,5 +1,5 @@
 -- What one pass can compute, of the attributes that wait for a number. Sets are tests on ℕ.
-use Rattle.std.specs.Prelude.{◌≡◌, ℕ, Bool, true, false, not, ◌&&◌}
+use Rattle.std.specs.Prelude.{◌≡◌, ℕ, Bool, true, false}
 
 -- A set of waiting attributes that one pass can compute together: whatever waits and precedes a member is a member too, behind no bar.
 pub record Stable (precedes barred : ℕ → ℕ → Bool) (waiting s : ℕ → Bool) : Type 0 where

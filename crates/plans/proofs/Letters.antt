@@ -6,8 +6,8 @@ use Rattle.refusal.specs.declared.Refusal.TheVariants.{BadPlan}
 use Rattle.plans.specs.Plans.{first_wrong, letter, plan_length, read, written, written_plan}
 use Rattle.plans.proofs.Plans.{length-written}
 
-pub bounds-tell : (count : ℕ) → (count ≡ 0 → ⊥) → count ≤ 128 → plan_length count ≡ true
-bounds-tell count h k = grind (arith, nat_tests)
+pub bounds_tell : (count : ℕ) → (count ≡ 0 → ⊥) → count ≤ 128 → plan_length count ≡ true
+bounds_tell count h k = grind (arith, nat_tests)
 
 pub copied : (letters bytes : List ℕ) (place : ℕ) → place < length letters → place < length bytes → take place letters ≡ take place bytes
     → take (place + 1) (set letters place (get_or bytes place 0)) ≡ take (place + 1) bytes

@@ -57,7 +57,7 @@ module _ (bytes : List ℕ) (small : length bytes ≤ 49152) (v : Vocabulary) (a
       let rs = map (rule_at bytes) x.rules in
       record {
         left = g.left;
-        few_positions = omega (arith, length-map x.positions (λ q. word bytes q 1), g.few-positions);
+        few_positions = omega (arith, length-map x.positions (λ q. word bytes q 1), g.few_positions);
         right = g.right;
         rules = All-map (LawfulRule v (production_at bytes x)) (rule_at bytes) x.rules
             (All-weaker (GoodRule bytes v admitted l r) (λ y. LawfulRule v (production_at bytes x) (rule_at bytes y)) (lawful_rule x) x.rules (good_rules l r x.rules [] g.rules));
@@ -75,8 +75,8 @@ module _ (bytes : List ℕ) (small : length bytes ≤ 49152) (v : Vocabulary) (a
   chained_production x g =
       let l = left_of bytes x in
       let r = right_of bytes x in (
-        g.position-chain,
-        g.rule-chain,
+        g.position_chain,
+        g.rule_chain,
         All-weaker (GoodRule bytes v admitted l r) (ChainedRule bytes) (λ y h. h.chain) x.rules (good_rules l r x.rules [] g.rules),
       )
 

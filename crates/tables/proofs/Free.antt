@@ -1,5 +1,5 @@
 -- How many records are left, as some are reached.
-use Rattle.std.proofs.Common.{◌≡◌, ℕ, zero, suc, ◌+◌, ◌<◌, ◌≤◌, Bool, true, false, cond, List, [], ◌∷◌, length, get_or, set, ap, arith}
+use Rattle.std.proofs.Common.{◌≡◌, ℕ, zero, suc, ◌+◌, ◌<◌, ◌≤◌, Bool, true, false, List, [], ◌∷◌, length, get_or, set, arith}
 use Rattle.tables.specs.Chains.{free}
 
 pub free_reach : (s : List Bool) (i : ℕ) → i < length s → get_or s i false ≡ false → free (set s i true) + 1 ≡ free s

@@ -8,7 +8,7 @@ use Rattle.std.proofs.lemmas.Bool.{and_from, cond-true, eq-eqb, lt-ltb, le-leb}
 use Rattle.grammar.specs.Grammar.{Vocabulary, Rule, Production, Grammar, is_inner}
 use Rattle.grammar.specs.Lawful.{target, Defined, LawfulRule, LawfulProduction, Lawful}
 use Rattle.tables.specs.Chains.{Sized, sized, and_then, word}
-use Rattle.tables.specs.Reading.{symbols, productions, after_symbols, value, reading}
+use Rattle.tables.specs.Reading.{after_symbols, value, reading}
 use Rattle.tables.specs.Tables.{Chain, SymbolPlaces, RulePlaces, ProductionPlaces, Outline, ChainedSymbol, ChainedRule, ChainedProduction, symbol_place, rule_place, production_place, symbol_records, rule_records, production_records, all_records, rule_at, production_at, occurrence_at, joined, Stands, AdmittedRule, AdmittedProduction, Admitted}
 use Rattle.tables.specs.Theorems.{LawfulIsAccepted}
 use Rattle.tables.proofs.Free.{free_most}

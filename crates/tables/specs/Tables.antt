@@ -5,11 +5,9 @@ use Rattle.grammar.specs.declared.vocabulary.SymbolKind.{SymbolKind}
 use Rattle.grammar.specs.declared.vocabulary.SymbolKind.TheVariants.{Inner, Terminal}
 use Rattle.grammar.specs.declared.vocabulary.AttributeKind.{AttributeKind}
 use Rattle.grammar.specs.declared.vocabulary.AttributeKind.TheVariants.{Inherited, Synthesized, Given}
-use Rattle.grammar.specs.declared.vocabulary.Symbol.{Symbol}
-use Rattle.grammar.specs.declared.vocabulary.Attribute.{Attribute}
 use Rattle.grammar.specs.declared.production.Occurrence.{Occurrence}
 use Rattle.grammar.specs.Members.{◌∈◌}
-use Rattle.grammar.specs.Grammar.{Vocabulary, Rule, Production, Grammar}
+use Rattle.grammar.specs.Grammar.{Rule, Production, Grammar}
 use Rattle.tables.specs.Chains.{word}
 
 -- the chain that begins at an index runs through these records, in order

@@ -3,7 +3,7 @@ use Rattle.std.proofs.Common.{◌≡◌, ℕ, zero, suc, ◌+◌, ◌-◌, ◌<�
 use Rattle.std.proofs.lemmas.List.{at_drop_more, at_drop_all}
 use Rattle.std.proofs.lemmas.Bool.{cond-true, cond-false, eq-eqb, ne_eqb, and_from}
 use Rattle.refusal.specs.declared.Refusal.{Refusal}
-use Rattle.refusal.specs.declared.Refusal.TheVariants.{TooDeep, BadNode, BadLink}
+use Rattle.refusal.specs.declared.Refusal.TheVariants.{TooDeep, BadNode}
 use Rattle.grammar.specs.Grammar.{Grammar}
 use Rattle.trees.specs.declared.node.Node.{Node}
 use Rattle.trees.specs.Checking.{Check, and_then, node, fits, children_symbols, children, subtree}

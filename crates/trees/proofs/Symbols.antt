@@ -1,6 +1,6 @@
 -- The symbols of the nodes of a tree and of their children.
 use Rattle.std.proofs.Common.{◌≡◌, ℕ, suc, ◌+◌, ◌-◌, ◌<◌, ◌≤◌, true, List, [], ◌∷◌, length, get_or, sym, refl, ap, ◌∙◌, inl, inr, arith}
-use Rattle.grammar.specs.Grammar.{Grammar, symbol}
+use Rattle.grammar.specs.Grammar.{Grammar}
 use Rattle.trees.specs.declared.node.Node.{Node}
 use Rattle.trees.specs.Checking.{node, fits, children_symbols}
 use Rattle.trees.specs.Trees.{Forest, none, brother, Derived, Holds}

@@ -1,5 +1,5 @@
 -- Straight-line programs: lists of assignments to cells.
-use Rattle.std.specs.Prelude.{◌≡◌, ℕ, ◌<◌, ◌≢◌, List, [], ◌∷◌, ◌++◌, map, length, set, Some, None, Option, slice_set}
+use Rattle.std.specs.Prelude.{◌≡◌, ℕ, ◌<◌, ◌≢◌, List, [], ◌∷◌, ◌++◌, map, length, Some, None, Option, slice_set}
 use Rattle.std.specs.List.{slice_get}
 use Rattle.refusal.specs.declared.Site.{Site}
 use Rattle.grammar.specs.Members.{◌∈◌}

@@ -3,5 +3,5 @@ use Rattle.std.proofs.Common.{rules}
 use Rattle.listing.proofs.Pages.{inside}
 use Rattle.listing.proofs.list.Goals as goal
 
-pub slice-bounds-copy-from-slice-end-2 : goal.slice-bounds-copy-from-slice-end-2
-slice-bounds-copy-from-slice-end-2 c = let h = inside c.page-of-page.ensures in search rules
+pub slice_bounds-copy_from_slice-end-2 : goal.slice_bounds-copy_from_slice-end-2
+slice_bounds-copy_from_slice-end-2 c = let h = inside c.page_of-page.ensures in search rules

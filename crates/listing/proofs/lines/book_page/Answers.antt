@@ -7,13 +7,13 @@ use Rattle.listing.proofs.lines.book_page.Goals as goal
 pub bounds-book-i : goal.bounds-book-i
 bounds-book-i c = omega (arith, few_attributes c.args.book.now)
 
-pub write-attribute-requires : goal.write-attribute-requires
-write-attribute-requires c =
+pub write_attribute-requires : goal.write_attribute-requires
+write_attribute-requires c =
     let few = few_attributes c.args.book.now in (omega arith, omega (arith, c.loop-i.invariant.room))
 
 pub loop-i-preserved : goal.loop-i-preserved
 loop-i-preserved c =
-    one_written _ _ _ _ _ _ _ c.deref-attribute-items.ensures.value c.loop-i-test.true c.loop-i.invariant c.write-attribute.ensures.adds c.write-attribute.ensures.short
+    one_written _ _ _ _ _ _ _ c.deref-attribute-items.ensures.value c.loop-i-test.true c.loop-i.invariant c.write_attribute.ensures.adds c.write_attribute.ensures.short
 
 pub write-requires : goal.write-requires
 write-requires c = omega (arith, few_attributes c.args.book.now, c.loop-i.invariant.room)

@@ -17,8 +17,8 @@ pub write-requires-2 : goal.write-requires-2
 write-requires-2 c =
     omega (arith, attribute_digits c.args.attribute c.requires.0, symbol_digits c.args.symbol (omega arith))
 
-pub write-pass-number-requires : goal.write-pass-number-requires
-write-pass-number-requires c =
+pub write_pass_number-requires : goal.write_pass_number-requires
+write_pass_number-requires c =
     omega (arith, attribute_digits c.args.attribute c.requires.0, symbol_digits c.args.symbol (omega arith))
 
 pub write-requires-3 : goal.write-requires-3
@@ -28,6 +28,6 @@ write-requires-3 c =
 pub returns : goal.returns
 returns c =
     record {
-      adds = then (then (then (then (then c.number.ensures c.write.ensures) c.number-2.ensures) c.write-2.ensures) c.write-pass-number.ensures) c.write-3.ensures;
+      adds = then (then (then (then (then c.number.ensures c.write.ensures) c.number-2.ensures) c.write-2.ensures) c.write_pass_number.ensures) c.write-3.ensures;
       short = omega (arith, attribute_digits c.args.attribute c.requires.0, symbol_digits c.args.symbol (omega arith), pass_number_digits c.args.number (omega arith));
     }

@@ -1,4 +1,4 @@
-use Rattle.std.proofs.Common.{◌≡◌, ◌+◌, map, length, set, is_ok, vec_items, vec_len, ap, ◌∙◌, arith}
+use Rattle.std.proofs.Common.{◌≡◌, ◌+◌, map, length, set, is_ok, vec_items, vec_len, ap, ◌∙◌}
 use Rattle.std.proofs.ResultArms.{chosen}
 use Rattle.std.proofs.lemmas.List.{map_push}
 use Rattle.grammar.specs.Grammar.{rule_view}
@@ -8,7 +8,7 @@ use Rattle.loading.proofs.additions.add_rule.Goals as goal
 
 pub returns : goal.returns
 returns g c =
-    let ok = ap is_ok c.in-ok-push.was in
+    let ok = ap is_ok c.in_ok-push.was in
     let pushed = chosen _ _ _ _ c.push.ensures.items ok in
     let one : vec_len c.push.new.self ≡ vec_len c.args.rules.now + 1 = chosen _ _ _ _ c.push.ensures.len ok in
     let count : c.len.result ≡ length (vec_items c.args.arguments) = c.len.ensures ∙ c.args.arguments.ok.0 in
@@ -19,5 +19,5 @@ returns g c =
       len = one;
       items = ap (map rule_view) pushed ∙ map_push rule_view (vec_items c.args.rules.now) _;
       targets = ap (map target_of) pushed ∙ map_push target_of (vec_items c.args.rules.now) _;
-      slots = ap (λ i. set c.args.slots.now i c.len-2.result) c.slot-of.ensures ∙ ap (λ n. set c.args.slots.now (slot c.args.target) n) number;
+      slots = ap (λ i. set c.args.slots.now i c.len-2.result) c.slot_of.ensures ∙ ap (λ n. set c.args.slots.now (slot c.args.target) n) number;
     }

@@ -12,8 +12,8 @@ invariant-arguments g l =
     (vec_len l.arguments ≤ 8)
     × (free l.reached + vec_len l.rules < 4096)
     × (l.board ≡ with_arguments (vocabulary_view l.vocabulary) l.target (vec_items l.arguments) l.initial.board)
-    × Left l.table.bytes.now (argument l.table.bytes.now (vocabulary_view l.vocabulary) (g.K.ValueKind.admitted l.kind) l.production.w1 (vec_items l.right)) 8 (vec_len l.arguments) (vec_items l.arguments) l.argument-holder l.argument-index l.reached
-    (along l.table.bytes.now (argument l.table.bytes.now (vocabulary_view l.vocabulary) (g.K.ValueKind.admitted l.kind) l.production.w1 (vec_items l.right)) 8 [] l.initial.argument-holder l.initial.argument-index l.initial.reached)
+    × Left l.table.bytes.now (argument l.table.bytes.now (vocabulary_view l.vocabulary) (g.K.ValueKind.admitted l.kind) l.production.w1 (vec_items l.right)) 8 (vec_len l.arguments) (vec_items l.arguments) l.argument_holder l.argument_index l.reached
+    (along l.table.bytes.now (argument l.table.bytes.now (vocabulary_view l.vocabulary) (g.K.ValueKind.admitted l.kind) l.production.w1 (vec_items l.right)) 8 [] l.initial.argument_holder l.initial.argument_index l.initial.reached)
 
 abbrev pub decreases-arguments : goal.decreases-arguments
 decreases-arguments g l = 8 - vec_len l.arguments
@@ -24,8 +24,8 @@ invariant-rules g l =
     × Indexed l.slots (map target_of (vec_items l.rules))
     × (length l.slots ≡ 576)
     × (l.board ≡ with_rules (vocabulary_view l.vocabulary) (map rule_view (vec_items l.rules)) l.initial.board)
-    × Left l.table.bytes.now (rule l.table.bytes.now (vocabulary_view l.vocabulary) (g.K.ValueKind.admitted l.kind) l.production.w1 (vec_items l.right)) 4096 (vec_len l.rules) (map rule_view (vec_items l.rules)) l.rule-holder l.rule-index l.reached
-    (along l.table.bytes.now (rule l.table.bytes.now (vocabulary_view l.vocabulary) (g.K.ValueKind.admitted l.kind) l.production.w1 (vec_items l.right)) 4096 [] l.initial.rule-holder l.initial.rule-index l.initial.reached)
+    × Left l.table.bytes.now (rule l.table.bytes.now (vocabulary_view l.vocabulary) (g.K.ValueKind.admitted l.kind) l.production.w1 (vec_items l.right)) 4096 (vec_len l.rules) (map rule_view (vec_items l.rules)) l.rule_holder l.rule_index l.reached
+    (along l.table.bytes.now (rule l.table.bytes.now (vocabulary_view l.vocabulary) (g.K.ValueKind.admitted l.kind) l.production.w1 (vec_items l.right)) 4096 [] l.initial.rule_holder l.initial.rule_index l.initial.reached)
 
 abbrev pub decreases-rules : goal.decreases-rules
 decreases-rules g l = 4096 - vec_len l.rules

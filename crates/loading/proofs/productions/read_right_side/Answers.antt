@@ -5,44 +5,44 @@ use Rattle.std.proofs.lemmas.Bool.{cond-true, cond-false}
 use Rattle.tables.proofs.Along.{ended, halted, passed, stopped, more}
 use Rattle.loading.proofs.productions.read_right_side.Goals as goal
 
-pub returns-in-err-found : goal.returns-in-err-found
-returns-in-err-found c =
-    let p = err_from_is_err_and c.from-residual.result c.from-residual.ensures.1 in
-    rw (p.1, p.2) (record { few = tt; value = λ admitted. inr (cond-true _ _ _ (sym c.if-not-is-inner.ensures) ∙ halted _ _ _ _ _ _ _ _ _ (c.positions.invariant.1 admitted) _ c.in-err-found.ensures.value) })
+pub returns-in_err-found : goal.returns-in_err-found
+returns-in_err-found c =
+    let p = err_from_is_err_and c.from_residual.result c.from_residual.ensures.1 in
+    rw (p.1, p.2) (record { few = tt; value = λ admitted. inr (cond-true _ _ _ (sym c.if-not-is_inner.ensures) ∙ halted _ _ _ _ _ _ _ _ _ (c.positions.invariant.1 admitted) _ c.in_err-found.ensures.value) })
 
-pub returns-then-len-eq-MOST-POSITIONS : goal.returns-then-len-eq-MOST-POSITIONS
-returns-then-len-eq-MOST-POSITIONS c =
+pub returns-then-len-eq-MOST_POSITIONS : goal.returns-then-len-eq-MOST_POSITIONS
+returns-then-len-eq-MOST_POSITIONS c =
     let full : 8 ≤ vec_len c.positions.right = omega arith in
     record {
       few = tt;
-      value = λ admitted. inr (cond-true _ _ _ (sym c.if-not-is-inner.ensures)
-          ∙ passed _ _ _ _ _ _ _ _ _ (c.positions.invariant.1 admitted) _ c.in-Some.found c.follow.new.reached c.in-ok-found.ensures.value c.in-Some.is full);
+      value = λ admitted. inr (cond-true _ _ _ (sym c.if-not-is_inner.ensures)
+          ∙ passed _ _ _ _ _ _ _ _ _ (c.positions.invariant.1 admitted) _ c.in-Some.found c.follow.new.reached c.in_ok-found.ensures.value c.in-Some.is full);
     }
 
-pub returns-then-not-is-inside : goal.returns-then-not-is-inside
-returns-then-not-is-inside c =
+pub returns-then-not-is_inside : goal.returns-then-not-is_inside
+returns-then-not-is_inside c =
     let less : vec_len c.positions.right < 8 = omega arith in
     record {
       few = tt;
-      value = λ admitted. inr (cond-true _ _ _ (sym c.if-not-is-inner.ensures)
-          ∙ stopped _ _ _ _ _ _ _ _ _ (c.positions.invariant.1 admitted) _ c.in-Some.found c.follow.new.reached _ c.in-ok-found.ensures.value c.in-Some.is less
-          (cond-false _ _ _ (sym c.if-not-is-inside.ensures)));
+      value = λ admitted. inr (cond-true _ _ _ (sym c.if-not-is_inner.ensures)
+          ∙ stopped _ _ _ _ _ _ _ _ _ (c.positions.invariant.1 admitted) _ c.in-Some.found c.follow.new.reached _ c.in_ok-found.ensures.value c.in-Some.is less
+          (cond-false _ _ _ (sym c.if-not-is_inside.ensures)));
     }
 
 pub positions-preserved : goal.positions-preserved
 positions-preserved c =
-    let ok = ap is_ok c.in-ok-push.was in
+    let ok = ap is_ok c.in_ok-push.was in
     let less : vec_len c.positions.right < 8 = omega arith in
     let pushed : vec_items c.push.new.self ≡ vec_items c.positions.right ++ c.in-Some.found.w1 ∷ [] = chosen _ _ _ _ c.push.ensures.items ok in
     let one : vec_len c.push.new.self ≡ vec_len c.positions.right + 1 = chosen _ _ _ _ c.push.ensures.len ok in (
       omega arith,
       λ admitted.
-          rw pushed (more _ _ _ _ _ _ _ _ _ (c.positions.invariant.1 admitted) _ c.in-Some.found c.follow.new.reached _ _ _ c.in-ok-found.ensures.value c.in-Some.is less
-          (cond-true _ _ _ (sym c.if-not-is-inside.ensures)) one),
+          rw pushed (more _ _ _ _ _ _ _ _ _ (c.positions.invariant.1 admitted) _ c.in-Some.found c.follow.new.reached _ _ _ c.in_ok-found.ensures.value c.in-Some.is less
+          (cond-true _ _ _ (sym c.if-not-is_inside.ensures)) one),
     )
 
 pub returns : goal.returns
 returns c = record {
   few = c.positions.invariant.0;
-  value = λ admitted. cond-true _ _ _ (sym c.if-not-is-inner.ensures) ∙ ended _ _ _ _ _ _ _ _ _ (c.positions.invariant.1 admitted) _ c.follow.new.reached c.in-ok-found.ensures.value c.in-default.is;
+  value = λ admitted. cond-true _ _ _ (sym c.if-not-is_inner.ensures) ∙ ended _ _ _ _ _ _ _ _ _ (c.positions.invariant.1 admitted) _ c.follow.new.reached c.in_ok-found.ensures.value c.in_default.is;
 }

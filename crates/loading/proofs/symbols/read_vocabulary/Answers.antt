@@ -1,63 +1,62 @@
-use Rattle.std.proofs.Common.{◌≡◌, suc, ◌+◌, ◌-◌, ◌<◌, ◌≤◌, eqb, [], ◌∷◌, ◌++◌, length, is_ok, vec_items, vec_len, sym, refl, ap, ◌∙◌, inl, inr, arith, rules}
+use Rattle.std.proofs.Common.{◌≡◌, suc, ◌+◌, ◌-◌, length, is_ok, vec_items, vec_len, refl, ap, ◌∙◌, inl, inr, arith}
 use Rattle.std.proofs.ResultArms.{chosen}
 use Rattle.std.proofs.lemmas.Result.{err_from_is_err_and}
-use Rattle.tables.specs.Reading.{Gathered}
 use Rattle.tables.proofs.Along.{ended, halted, passed, stopped, more}
 use Rattle.loading.proofs.Gathering.{symbol_bad, symbol_refused, symbol_more, same_symbol}
 use Rattle.loading.proofs.symbols.read_vocabulary.Goals as goal
 
-pub returns-in-err-found : goal.returns-in-err-found
-returns-in-err-found c =
-    let p = err_from_is_err_and c.from-residual.result c.from-residual.ensures.1 in
-    rw (p.1, p.2) (record { start = tt; few = tt; value = inr (halted _ _ _ _ _ _ _ _ _ c.symbols.invariant.2 _ c.in-err-found.ensures.value) })
+pub returns-in_err-found : goal.returns-in_err-found
+returns-in_err-found c =
+    let p = err_from_is_err_and c.from_residual.result c.from_residual.ensures.1 in
+    rw (p.1, p.2) (record { start = tt; few = tt; value = inr (halted _ _ _ _ _ _ _ _ _ c.symbols.invariant.2 _ c.in_err-found.ensures.value) })
 
-pub returns-then-len-eq-MOST-SYMBOLS : goal.returns-then-len-eq-MOST-SYMBOLS
-returns-then-len-eq-MOST-SYMBOLS c =
-    record { start = tt; few = tt; value = inr (passed _ _ _ _ _ _ _ _ _ c.symbols.invariant.2 _ c.in-Some.found c.follow.new.reached c.in-ok-found.ensures.value c.in-Some.is (omega arith)) }
+pub returns-then-len-eq-MOST_SYMBOLS : goal.returns-then-len-eq-MOST_SYMBOLS
+returns-then-len-eq-MOST_SYMBOLS c =
+    record { start = tt; few = tt; value = inr (passed _ _ _ _ _ _ _ _ _ c.symbols.invariant.2 _ c.in-Some.found c.follow.new.reached c.in_ok-found.ensures.value c.in-Some.is (omega arith)) }
 
-pub returns-in-default-symbol-kind : goal.returns-in-default-symbol-kind
-returns-in-default-symbol-kind c =
+pub returns-in_default-symbol_kind : goal.returns-in_default-symbol_kind
+returns-in_default-symbol_kind c =
     record {
       start = tt;
       few = tt;
-      value = inr (stopped _ _ _ _ _ _ _ _ _ c.symbols.invariant.2 _ c.in-Some.found c.follow.new.reached _ c.in-ok-found.ensures.value c.in-Some.is (omega arith)
-          (symbol_bad c.args.table.now.bytes.now c.args.start _ c.in-Some.found c.follow.new.reached c.in-default-symbol-kind.ensures));
+      value = inr (stopped _ _ _ _ _ _ _ _ _ c.symbols.invariant.2 _ c.in-Some.found c.follow.new.reached _ c.in_ok-found.ensures.value c.in-Some.is (omega arith)
+          (symbol_bad c.args.table.now.bytes.now c.args.start _ c.in-Some.found c.follow.new.reached c.in_default-symbol_kind.ensures));
     }
 
-pub returns-in-err-read-attributes : goal.returns-in-err-read-attributes
-returns-in-err-read-attributes c =
-    let p = err_from_is_err_and c.from-residual-in-err-read-attributes.result c.from-residual-in-err-read-attributes.ensures.1 in
+pub returns-in_err-read_attributes : goal.returns-in_err-read_attributes
+returns-in_err-read_attributes c =
+    let p = err_from_is_err_and c.from_residual-in_err-read_attributes.result c.from_residual-in_err-read_attributes.ensures.1 in
     let number : c.len-in-Some.result + 1 ≡ suc (length (vec_items c.symbols.symbols)) = omega (arith, c.symbols.symbols.ok.0, c.len-in-Some.ensures) in
     rw (p.1, p.2) (record {
       start = tt;
       few = tt;
-      value = elim c.in-err-read-attributes.ensures.value [
+      value = elim c.in_err-read_attributes.ensures.value [
         | inl h ↦ inl h
-        | inr h ↦ inr (stopped _ _ _ _ _ _ _ _ _ c.symbols.invariant.2 _ c.in-Some.found c.follow.new.reached _ c.in-ok-found.ensures.value c.in-Some.is (omega arith)
+        | inr h ↦ inr (stopped _ _ _ _ _ _ _ _ _ c.symbols.invariant.2 _ c.in-Some.found c.follow.new.reached _ c.in_ok-found.ensures.value c.in-Some.is (omega arith)
             (symbol_refused c.args.table.now.bytes.now c.args.start _ c.in-Some.found c.follow.new.reached
-            c.in-Some-symbol-kind.kind (c.len-in-Some.result + 1) _ c.in-Some-symbol-kind.ensures number refl _ h))
+            c.in-Some-symbol_kind.kind (c.len-in-Some.result + 1) _ c.in-Some-symbol_kind.ensures number refl _ h))
       ];
     })
 
 pub symbols-preserved : goal.symbols-preserved
 symbols-preserved c =
-    let ok = ap is_ok c.in-ok-push.was in
+    let ok = ap is_ok c.in_ok-push.was in
     let number : c.len-in-Some.result + 1 ≡ suc (length (vec_items c.symbols.symbols)) = omega (arith, c.symbols.symbols.ok.0, c.len-in-Some.ensures) in
     let first : c.len-in-Some-2.result + 1 ≡ suc (length (vec_items c.symbols.attributes)) = omega (arith, c.symbols.attributes.ok.0, c.len-in-Some-2.ensures) in
-    let count : c.len-in-Some-3.result + 1 - (c.len-in-Some-2.result + 1) ≡ length (vec_items c.read-attributes.new.attributes) - length (vec_items c.symbols.attributes) =
-    omega (arith, c.symbols.attributes.ok.0, c.read-attributes.new.attributes.ok.0, c.len-in-Some-2.ensures, c.len-in-Some-3.ensures) in
+    let count : c.len-in-Some-3.result + 1 - (c.len-in-Some-2.result + 1) ≡ length (vec_items c.read_attributes.new.attributes) - length (vec_items c.symbols.attributes) =
+    omega (arith, c.symbols.attributes.ok.0, c.read_attributes.new.attributes.ok.0, c.len-in-Some-2.ensures, c.len-in-Some-3.ensures) in
     let one : vec_len c.push.new.self ≡ vec_len c.symbols.symbols + 1 = chosen _ _ _ _ c.push.ensures.len ok in
-    let pushed = chosen _ _ _ _ c.push.ensures.items ok ∙ same_symbol (vec_items c.symbols.symbols) c.in-Some-symbol-kind.kind _ _ _ _ first count in (
+    let pushed = chosen _ _ _ _ c.push.ensures.items ok ∙ same_symbol (vec_items c.symbols.symbols) c.in-Some-symbol_kind.kind _ _ _ _ first count in (
       omega arith,
-      c.in-ok-read-attributes.ensures.few,
-      rw pushed (more _ _ _ _ _ _ _ _ _ c.symbols.invariant.2 _ c.in-Some.found c.follow.new.reached _ _ _ c.in-ok-found.ensures.value c.in-Some.is (omega arith)
+      c.in_ok-read_attributes.ensures.few,
+      rw pushed (more _ _ _ _ _ _ _ _ _ c.symbols.invariant.2 _ c.in-Some.found c.follow.new.reached _ _ _ c.in_ok-found.ensures.value c.in-Some.is (omega arith)
           (symbol_more c.args.table.now.bytes.now c.args.start _ c.in-Some.found c.follow.new.reached
-          c.in-Some-symbol-kind.kind (c.len-in-Some.result + 1) _ c.in-Some-symbol-kind.ensures number refl _ _ c.in-ok-read-attributes.ensures.value) one),
+          c.in-Some-symbol_kind.kind (c.len-in-Some.result + 1) _ c.in-Some-symbol_kind.ensures number refl _ _ c.in_ok-read_attributes.ensures.value) one),
     )
 
 pub returns : goal.returns
 returns c = record {
   start = refl;
   few = c.symbols.invariant.1;
-  value = ended _ _ _ _ _ _ _ _ _ c.symbols.invariant.2 _ c.follow.new.reached c.in-ok-found.ensures.value c.in-default.is;
+  value = ended _ _ _ _ _ _ _ _ _ c.symbols.invariant.2 _ c.follow.new.reached c.in_ok-found.ensures.value c.in_default.is;
 }

@@ -15,13 +15,13 @@ passes-init c = going_start c.args.arcs.now c.args.attributes.now c.wanting-wait
 
 pub passes-preserved : goal.passes-preserved
 passes-preserved c = going_pass c.args.arcs.now c.args.attributes.now c.args.directions.now c.passes.place c.passes.numbers c.passes.passes c.passes.waiting
-    c.passes.invariant c.columns-of-predecessors.result c.columns-of-left-bars.result c.columns-of-right-bars.result
-    c.columns-of-predecessors.ensures c.columns-of-left-bars.ensures c.columns-of-right-bars.ensures c.requires.attributes
-    _ c.passes-test.true refl c.computed-in-chosen.result c.computed-in-chosen.type-inv c.computed-in-chosen.ensures
+    c.passes.invariant c.columns_of-predecessors.result c.columns_of-left_bars.result c.columns_of-right_bars.result
+    c.columns_of-predecessors.ensures c.columns_of-left_bars.ensures c.columns_of-right_bars.ensures c.requires.attributes
+    _ c.passes-test.true refl c.computed_in-chosen.result c.computed_in-chosen.type_inv c.computed_in-chosen.ensures
     c.assign.new.numbers c.minus-waiting.result c.if-chosen-ne0.passes
-    (λ p. c.assign.ensures p ∙ ap (λ n. cond (has c.computed-in-chosen.result p) n (get_or c.passes.numbers p 0)) c.pass-at-pass.ensures) c.minus-waiting.ensures
+    (λ p. c.assign.ensures p ∙ ap (λ n. cond (has c.computed_in-chosen.result p) n (get_or c.passes.numbers p 0)) c.pass_at-pass.ensures) c.minus-waiting.ensures
     (elim c.if-chosen-ne0.branch [
-      | then-chosen-ne0 w ↦ inr (omega arith, w.passes-is ∙ c.pass-at-pass.ensures)
+      | then-chosen-ne0 w ↦ inr (omega arith, w.passes-is ∙ c.pass_at-pass.ensures)
       | else-chosen-ne0 w ↦ inl (w.if-chosen-ne0.false, w.passes-is)
     ])
 

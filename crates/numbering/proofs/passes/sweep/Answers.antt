@@ -1,5 +1,5 @@
 -- An attribute that is blocked is deleted; any other stays.
-use Rattle.std.proofs.Common.{◌≡◌, ℕ, ◌+◌, ◌<◌, ◌≤◌, true, sym, ◌∙◌, subst, ⊎_elim, arith}
+use Rattle.std.proofs.Common.{◌≡◌, ◌+◌, ◌<◌, ◌≤◌, sym, ◌∙◌, subst, ⊎_elim, arith}
 use Rattle.bitset.specs.Sets.{has}
 use Rattle.bitset.proofs.Digits.{has_past}
 use Rattle.std.proofs.lemmas.Bool.{both_ways, cases_lt}

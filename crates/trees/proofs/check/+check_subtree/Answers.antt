@@ -18,28 +18,28 @@ returns-then-node-symbol t c = unfit _ _ _ _ _ _ c.if-room-eq0.false (elim c.the
 pub loop-expected-init : goal.loop-expected-init
 loop-expected-init t c = (
   omega arith,
-  by_children _ _ _ _ _ _ _ c.if-room-eq0.false c.if-node-symbol.false c.if-not-fits.ensures c.right-side-right.ensures,
+  by_children _ _ _ _ _ _ _ c.if-room-eq0.false c.if-node-symbol.false c.if-not-fits.ensures c.right_side-right.ensures,
 )
 
 pub returns-then-index-eq0 : goal.returns-then-index-eq0
 returns-then-index-eq0 t c = missing _ _ _ _ _ _ _ _ _ _ c.loop-expected.invariant.1 c.loop-expected-test.true c.if-index-eq0.true
 
-pub returns-in-err-reach : goal.returns-in-err-reach
-returns-in-err-reach t c =
-    let p = err_from_is_err_and c.from-residual.result c.from-residual.ensures.1 in
-    rw (p.1, p.2) (lost _ _ _ _ _ _ _ _ _ _ c.loop-expected.invariant.1 c.loop-expected-test.true c.if-index-eq0.false _ c.in-err-reach.ensures)
+pub returns-in_err-reach : goal.returns-in_err-reach
+returns-in_err-reach t c =
+    let p = err_from_is_err_and c.from_residual.result c.from_residual.ensures.1 in
+    rw (p.1, p.2) (lost _ _ _ _ _ _ _ _ _ _ c.loop-expected.invariant.1 c.loop-expected-test.true c.if-index-eq0.false _ c.in_err-reach.ensures)
 
-pub returns-in-err-check-subtree : goal.returns-in-err-check-subtree
-returns-in-err-check-subtree t c =
-    let p = err_from_is_err_and c.from-residual-in-err-check-subtree.result c.from-residual-in-err-check-subtree.ensures.1 in
+pub returns-in_err-check_subtree : goal.returns-in_err-check_subtree
+returns-in_err-check_subtree t c =
+    let p = err_from_is_err_and c.from_residual-in_err-check_subtree.result c.from_residual-in_err-check_subtree.ensures.1 in
     rw (p.1, p.2) (refused _ _ _ _ _ _ _ _ _ _ c.loop-expected.invariant.1 c.loop-expected-test.true c.if-index-eq0.false
-    c.reach.new.reached c.in-ok-reach.ensures _ c.in-err-check-subtree.ensures)
+    c.reach.new.reached c.in_ok-reach.ensures _ c.in_err-check_subtree.ensures)
 
 pub loop-expected-preserved : goal.loop-expected-preserved
 loop-expected-preserved t c = (
   omega arith,
-  rw c.next-brother-index.ensures (more _ _ _ _ _ _ _ _ _ _ c.loop-expected.invariant.1 c.loop-expected-test.true c.if-index-eq0.false
-      c.reach.new.reached c.in-ok-reach.ensures c.check-subtree.new.reached c.in-ok-check-subtree.ensures),
+  rw c.next_brother-index.ensures (more _ _ _ _ _ _ _ _ _ _ c.loop-expected.invariant.1 c.loop-expected-test.true c.if-index-eq0.false
+      c.reach.new.reached c.in_ok-reach.ensures c.check_subtree.new.reached c.in_ok-check_subtree.ensures),
 )
 
 pub returns-then-index-eq0-2 : goal.returns-then-index-eq0-2

@@ -4,8 +4,8 @@ use Rattle.trees.specs.Checking.{subtree, children}
 use Rattle.grammar.specs.OfBook.{grammar_of}
 use Rattle.trees.proofs.check.+check_subtree.Given as goal
 
-abbrev pub decreases-check-subtree : goal.decreases-check-subtree
-decreases-check-subtree l = l.room
+abbrev pub decreases-check_subtree : goal.decreases-check_subtree
+decreases-check_subtree l = l.room
 
 abbrev pub invariant-loop-expected : goal.invariant-loop-expected
 invariant-loop-expected l =

@@ -19,6 +19,6 @@ write-requires t c =
 pub returns : goal.returns
 returns t c =
     elim c.if-n-ge10.branch [
-      | then-n-ge10 w ↦ last_digit c.args.n _ w.if-n-ge10.true (omega arith) c.last-digit.ensures w.self-is w.number.ensures c.write.ensures
-      | else-n-ge10 w ↦ one_digit c.args.n _ w.if-n-ge10.false c.last-digit.ensures w.self-is c.write.ensures
+      | then-n-ge10 w ↦ last_digit c.args.n _ w.if-n-ge10.true (omega arith) c.last_digit.ensures w.self-is w.number.ensures c.write.ensures
+      | else-n-ge10 w ↦ one_digit c.args.n _ w.if-n-ge10.false c.last_digit.ensures w.self-is c.write.ensures
     ]

@@ -3,5 +3,5 @@ use Rattle.std.proofs.Common.{arith}
 use Rattle.plans.proofs.Plans.{length-alternating}
 use Rattle.plans.proofs.alternating.Alternating.new.Goals as goal
 
-pub invariant-of-result : goal.invariant-of-result
-invariant-of-result c = ((omega arith, omega arith), (length-alternating _ _, tt))
+pub invariant_of-result : goal.invariant_of-result
+invariant_of-result c = record { bounds = (omega arith, omega arith); counted = length-alternating _ _ }

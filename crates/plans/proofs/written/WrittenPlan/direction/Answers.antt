@@ -10,4 +10,4 @@ returns-then-pass-eq0 c =
 
 pub returns : goal.returns
 returns c =
-    ap Some c.direction-of.ensures ∙ sym (written_direction c.args.self.now.letters c.args.self.now.count c.args.pass (omega arith) (omega arith) (omega arith))
+    ap Some c.direction_of.ensures ∙ sym (written_direction c.args.self.now.letters c.args.self.now.count c.args.pass (omega arith) (omega arith) (omega arith))
