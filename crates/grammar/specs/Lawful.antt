@@ -1,6 +1,6 @@
 -- Which grammars are lawful.
 use Rattle.std.specs.Prelude.{◌≡◌, ℕ, suc, ◌+◌, ◌<◌, ◌≤◌, Bool, true, false, not, List, [], ◌∷◌, map, length, get_or, ◌==◌, slice_index_or}
-use Rattle.std.specs.List.{AllByRecursion as All}
+use Rattle.std.specs.List.{AllByRecursion}
 use Rattle.grammar.specs.declared.vocabulary.SymbolKind.{SymbolKind}
 use Rattle.grammar.specs.declared.vocabulary.SymbolKind.TheVariants.{Inner, Terminal}
 use Rattle.grammar.specs.declared.vocabulary.AttributeKind.{AttributeKind}
@@ -54,7 +54,7 @@ pub record OneRule (rules : List Rule) (o : Occurrence) : Type 0 where
 pub record LawfulRule (v : Vocabulary) (p : Production) (r : Rule) : Type 0 where
   pub defines : Defined v p r.target
   pub few_arguments : length r.arguments ≤ 8
-  pub uses : All (Used v p) r.arguments
+  pub uses : AllByRecursion (Used v p) r.arguments
 
 -- a symbol that may stand on a right side
 abbrev pub Inside : Vocabulary → ℕ → Type 0
@@ -63,11 +63,11 @@ Inside v s = (is_symbol v s ≡ true) × ((s == v.start) ≡ false)
 pub record LawfulProduction (v : Vocabulary) (p : Production) : Type 0 where
   pub left : is_inner v p.left ≡ true
   pub few_positions : length p.right ≤ 8
-  pub right : All (Inside v) p.right
-  pub rules : All (LawfulRule v p) p.rules
+  pub right : AllByRecursion (Inside v) p.right
+  pub rules : AllByRecursion (LawfulRule v p) p.rules
   pub one_rule : (o : Occurrence) → Defined v p o → OneRule p.rules o
 
 pub record Lawful (g : Grammar) : Type 0 where
   pub vocabulary : LawfulVocabulary g.vocabulary
   pub few_productions : length g.productions ≤ 128
-  pub productions : All (LawfulProduction g.vocabulary) g.productions
+  pub productions : AllByRecursion (LawfulProduction g.vocabulary) g.productions

@@ -3,7 +3,7 @@ ghost use Rattle.std.specs.Prelude.{◌≡◌, ℕ, ◌+◌, ◌<◌, ◌≤◌,
 ghost use Rattle.grammar.specs.Arcs.{with_argument};
 ghost use Rattle.grammar.specs.Grammar.{Vocabulary as VocabularyView, vocabulary_view, rule_view, production_view, every_below, settled, complete};
 ghost use Rattle.grammar.specs.Rules.{slot, Within, Indexed, target_of};
-ghost use Rattle.tables.specs.Reading.{Gives, occurrence as occurrence-of, argument as argument-read, finished_rule, finished_production};
+ghost use Rattle.tables.specs.Reading.{Gives, occurrence as occurrence_of, argument as argument_read, finished_rule, finished_production};
 ghost use Rattle.grammar.specs.declared.production.Occurrence.{Occurrence as OccurrenceView};
 
 use crate::checks::{is_defined, occurring_kind, slot_of};
@@ -25,10 +25,10 @@ pub(crate) fn add_argument(
 ) -> Result<(), Refusal>
     requires attributes { vec_len vocabulary.now.attributes ≤ 64 }
     requires target { Within target }
-    ensures value { (bytes : List ℕ) (admitted : ℕ → ℕ → ℕ → Bool) (s : List Bool) → Gives (λ _. arguments.new.items) result s (argument-read bytes (vocabulary_view vocabulary.now) admitted left right.now arguments.old.items found s) }
+    ensures value { (bytes : List ℕ) (admitted : ℕ → ℕ → ℕ → Bool) (s : List Bool) → Gives (λ _. arguments.new.items) result s (argument_read bytes (vocabulary_view vocabulary.now) admitted left right.now arguments.old.items found s) }
     ensures len { OnOk result (vec_len arguments.new ≡ vec_len arguments.old + 1) }
-    ensures items { OnOk result (arguments.new.items ≡ arguments.old.items ++ occurrence-of found ∷ []) }
-    ensures board { OnOk result (board.new ≡ with_argument (vocabulary_view vocabulary.now) target board.old (occurrence-of found)) }
+    ensures items { OnOk result (arguments.new.items ≡ arguments.old.items ++ occurrence_of found ∷ []) }
+    ensures board { OnOk result (board.new ≡ with_argument (vocabulary_view vocabulary.now) target board.old (occurrence_of found)) }
 {
     let argument = Occurrence {
         position: found.w1,
@@ -65,7 +65,7 @@ pub(crate) fn add_rule<K: ValueKind>(
     found: Record,
 ) -> Result<(), Refusal>
     requires few { vec_len rules.old < 4096 }
-    requires target { Within target × (target ≡ occurrence-of found) }
+    requires target { Within target × (target ≡ occurrence_of found) }
     ensures value { (bytes : List ℕ) (v : VocabularyView) (s : List Bool) → Gives (λ _. map rule_view rules.new.items) result s (finished_rule bytes v (K.ValueKind.admitted kind.now) (map rule_view rules.old.items) found arguments.items s) }
     ensures len { OnOk result (vec_len rules.new ≡ vec_len rules.old + 1) }
     ensures items { OnOk result (map rule_view rules.new.items ≡ map rule_view rules.old.items ++ record { target = target; operation = found.w4; constant = found.w5; arguments = arguments.items } ∷ []) }

@@ -1,6 +1,6 @@
 // Loads a book from the bytes of a table.
 ghost use Rattle.std.specs.Prelude.{◌≡◌, IfOk};
-ghost use Rattle.grammar.specs.Books.{unnumbered as unnumbered-of};
+ghost use Rattle.grammar.specs.Books.{unnumbered as unnumbered_of};
 ghost use Rattle.tables.specs.Reading.{reading};
 ghost use Rattle.loading.specs.Loading.{Loads, Judges};
 
@@ -22,7 +22,7 @@ use tables::{Table, is_sized};
 pub fn load<K: ValueKind>(heap: Global, bytes: &[u8], kind: &K) -> Result<Book, Refusal>
     ensures reading { Loads result (reading bytes.now (K.ValueKind.admitted kind.now)) }
     ensures judges { Judges bytes.now (K.ValueKind.admitted kind.now) result }
-    ensures numbers { IfOk result (λ b. b.numbers ≡ unnumbered-of b.vocabulary.attributes.items) }
+    ensures numbers { IfOk result (λ b. b.numbers ≡ unnumbered_of b.vocabulary.attributes.items) }
     ensures passes { IfOk result (λ b. (b.passes ≡ 0) × (b.planned ≡ 0)) }
 {
     if !is_sized(bytes) {

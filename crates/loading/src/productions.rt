@@ -4,7 +4,7 @@ ghost use Rattle.refusal.specs.declared.Refusal.TheVariants.{NoSuch};
 ghost use Rattle.grammar.specs.Arcs.{with_productions};
 ghost use Rattle.grammar.specs.Grammar.{vocabulary_view, production_view, is_inner};
 ghost use Rattle.tables.specs.Chains.{along};
-ghost use Rattle.tables.specs.Reading.{Gives, position as position-read, productions as productions_read};
+ghost use Rattle.tables.specs.Reading.{Gives, position as position_read, productions as productions_read};
 
 use crate::additions::{add_argument, add_production, add_rule};
 use crate::checks::{check_target, is_inner, is_inside};
@@ -30,7 +30,7 @@ fn read_right_side(
     at: Record,
 ) -> Result<Vec<u16>, Refusal>
     ensures few { IfOk result (λ right. vec_len right ≤ 8) }
-    ensures value { (admitted : ℕ → ℕ → ℕ → Bool) → Gives vec_items result reached.new (if is_inner (vocabulary_view vocabulary.now) at.w1 then along table.now.bytes.now (position-read table.now.bytes.now (vocabulary_view vocabulary.now) admitted) 8 [] at.place at.w2 reached.old else Err (NoSuch at.place)) }
+    ensures value { (admitted : ℕ → ℕ → ℕ → Bool) → Gives vec_items result reached.new (if is_inner (vocabulary_view vocabulary.now) at.w1 then along table.now.bytes.now (position_read table.now.bytes.now (vocabulary_view vocabulary.now) admitted) 8 [] at.place at.w2 reached.old else Err (NoSuch at.place)) }
 {
     if !is_inner(vocabulary, at.w1) {
         return Err(Refusal::NoSuch { record: at.place });

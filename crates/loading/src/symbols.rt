@@ -1,6 +1,6 @@
 // Reads the vocabulary of a table: its symbols, each with its attributes.
 ghost use Rattle.std.specs.Prelude.{◌≡◌, ℕ, ◌≤◌, IfOk, vec_len, OnOk};
-ghost use Rattle.tables.specs.Reading.{Gives, symbol_kind, attribute_kind, standing, attributes as attributes-read, symbols as symbols_read};
+ghost use Rattle.tables.specs.Reading.{Gives, symbol_kind, attribute_kind, standing, attributes as attributes_read, symbols as symbols_read};
 ghost use Rattle.loading.specs.Views.{gathered};
 
 use grammar::{Attribute, AttributeKind, Symbol, SymbolKind, Vocabulary};
@@ -49,7 +49,7 @@ fn read_attributes(
     requires { vec_len attributes.old ≤ 64 }
     ensures few { OnOk result (vec_len attributes.new ≤ 64) }
     ensures more { OnOk result (vec_len attributes.old ≤ vec_len attributes.new) }
-    ensures value { Gives (λ _. attributes.new.items) result reached.new (attributes-read table.now.bytes.now number symbol starts attributes.old.items at reached.old) }
+    ensures value { Gives (λ _. attributes.new.items) result reached.new (attributes_read table.now.bytes.now number symbol starts attributes.old.items at reached.old) }
 {
     let before = attributes.len();
     let mut holder = at.place;

@@ -1,7 +1,7 @@
 -- A grammar that is read is lawful and admitted, and the table stands for it.
 use Rattle.std.proofs.Common.{◌≡◌, ℕ, ◌%◌, ◌≤◌, Bool, true, false, ◌&&◌, eqb, ltb, leb, List, [], ◌∷◌, ◌++◌, map, length, replicate, Ok, sym, refl, ap, ◌∙◌, subst, arith}
 use lib.ListN.{length-map, length-replicate}
-use Rattle.std.specs.List.{AllByRecursion as All}
+use Rattle.std.specs.List.{AllByRecursion}
 use Rattle.refusal.specs.declared.Refusal.TheVariants.{TableSize, NoSuch}
 use Rattle.std.proofs.lemmas.List.{map_push}
 use Rattle.std.proofs.ByRecursion.{All-map, All-weaker}
@@ -32,7 +32,7 @@ module _ (bytes : List ℕ) (small : length bytes ≤ 49152) (v : Vocabulary) (a
   module _ (left : ℕ) (right : List ℕ) where
     good_rules : (rs : List RulePlaces) (before : List Rule)
         → Held rule_place rule_rest (may_follow bytes v admitted left right) (one_rule_more bytes) rs before
-        → All (GoodRule bytes v admitted left right) rs
+        → AllByRecursion (GoodRule bytes v admitted left right) rs
     good_rules [] before h = tt
     good_rules (r ∷ rs) before h = (h.0.0, good_rules rs (before ++ rule_at bytes r ∷ []) h.1)
 

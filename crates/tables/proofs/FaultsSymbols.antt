@@ -1,6 +1,6 @@
 -- Reading symbols and their attributes: the vocabulary that the table writes, or a fault.
 use Rattle.std.proofs.Common.{◌≡◌, ℕ, suc, ◌+◌, ◌-◌, ◌≤◌, Bool, true, false, cond, eqb, leb, List, [], ◌∷◌, ◌++◌, map, length, replicate, Some, None, Option, sym, refl, ap, ◌∙◌, subst, arith}
-use Rattle.std.specs.List.{AllByRecursion as All}
+use Rattle.std.specs.List.{AllByRecursion}
 use Rattle.std.proofs.lemmas.List.{append-nil, append_assoc, map-append, length-map, length-append, length_push, map_push, replicate_more, length-replicate}
 use Rattle.std.proofs.lemmas.Bool.{leb-true, leb-false}
 use Rattle.std.proofs.lemmas.Bool.Decides.{nat_tests}
@@ -46,7 +46,7 @@ added_length : (bytes : List ℕ) (n : ℕ) (before : List Attribute) (ps : List
 added_length bytes n before ps b a = simp (length-map, length-append, length-replicate) at (ap length a.symbols)
 
 module _ (bytes : List ℕ) (admitted : ℕ → ℕ → ℕ → Bool) (short : length bytes ≤ 49152)
-    (places : List SymbolPlaces) (chains : All (ChainedSymbol bytes) places)
+    (places : List SymbolPlaces) (chains : AllByRecursion (ChainedSymbol bytes) places)
     (n p : ℕ) (base : ℕ) (on : Onward bytes (word bytes 0 0) (map symbol_place places) p) (here : Names bytes p)
     (count : n ≡ length places)
     (kind : SymbolKind) (is_kind : symbol_kind (word bytes p 1) ≡ Some kind)
@@ -101,7 +101,7 @@ module _ (bytes : List ℕ) (admitted : ℕ → ℕ → ℕ → Bool) (short : l
       before s a
       (record { kinds = sym (append-nil _); symbols = sym (append-nil _); few = few })
 
-all_more : {A : Type 0} (P : A → Type 0) (xs : List A) (y : A) → All P xs → P y → All P (xs ++ y ∷ [])
+all_more : {A : Type 0} (P : A → Type 0) (xs : List A) (y : A) → AllByRecursion P xs → P y → AllByRecursion P (xs ++ y ∷ [])
 all_more P [] y h e = (e, tt)
 all_more P (x ∷ xs) y h e = (h.0, all_more P xs y h.1 e)
 
@@ -125,7 +125,7 @@ owners_more n (p ∷ places) s =
 pub record Gathers (bytes : List ℕ) (ps : List ℕ) (found : Gathered) : Type 0 where
   pub places : List SymbolPlaces
   pub are : map symbol_place places ≡ ps
-  pub chains : All (ChainedSymbol bytes) places
+  pub chains : AllByRecursion (ChainedSymbol bytes) places
   pub written : Written bytes places found.symbols found.attributes
   pub few : length found.attributes ≤ 64
 

@@ -1,7 +1,7 @@
 -- A table that stands for a lawful grammar whose operations are admitted is accepted, as that grammar.
 use Rattle.std.proofs.Common.{◌≡◌, ℕ, ◌%◌, ◌<◌, ◌≤◌, Bool, true, false, List, [], ◌∷◌, ◌++◌, map, length, get_or, replicate, Ok, sym, ap, ◌∙◌, subst, ap₂, arith, length-append}
 use lib.ListN.{length-map, length-replicate}
-use Rattle.std.specs.List.{AllByRecursion as All}
+use Rattle.std.specs.List.{AllByRecursion}
 use Rattle.std.proofs.lemmas.List.{map_push, get_or_default}
 use Rattle.std.proofs.ByRecursion.{All-append, All-map, All-get_or}
 use Rattle.std.proofs.lemmas.Bool.{and_from, cond-true, eq-eqb, lt-ltb, le-leb}
@@ -31,21 +31,21 @@ abbrev Low : ℕ → Type 0
 Low p = p < 4096
 
 module _ (bytes : List ℕ) (small : length bytes ≤ 49152) where
-  low_chain : (ps : List ℕ) (index : ℕ) → Chain bytes index ps → All Low ps
+  low_chain : (ps : List ℕ) (index : ℕ) → Chain bytes index ps → AllByRecursion Low ps
   low_chain [] index c = tt
   low_chain (p ∷ ps) index c = (omega (arith, c.2), low_chain ps (word bytes p 0) c.3)
 
-  low_symbols : (xs : List SymbolPlaces) → All Low (map symbol_place xs) → All (ChainedSymbol bytes) xs → All Low (joined (map symbol_records xs))
+  low_symbols : (xs : List SymbolPlaces) → AllByRecursion Low (map symbol_place xs) → AllByRecursion (ChainedSymbol bytes) xs → AllByRecursion Low (joined (map symbol_records xs))
   low_symbols [] l c = tt
   low_symbols (x ∷ xs) l c =
       (l.0, All-append Low x.attributes (joined (map symbol_records xs)) (low_chain x.attributes (word bytes x.place 2) c.0) (low_symbols xs l.1 c.1))
 
-  low_rules : (rs : List RulePlaces) → All Low (map rule_place rs) → All (ChainedRule bytes) rs → All Low (joined (map rule_records rs))
+  low_rules : (rs : List RulePlaces) → AllByRecursion Low (map rule_place rs) → AllByRecursion (ChainedRule bytes) rs → AllByRecursion Low (joined (map rule_records rs))
   low_rules [] l c = tt
   low_rules (r ∷ rs) l c =
       (l.0, All-append Low r.arguments (joined (map rule_records rs)) (low_chain r.arguments (word bytes r.place 3) c.0) (low_rules rs l.1 c.1))
 
-  low_productions : (xs : List ProductionPlaces) → All Low (map production_place xs) → All (ChainedProduction bytes) xs → All Low (joined (map production_records xs))
+  low_productions : (xs : List ProductionPlaces) → AllByRecursion Low (map production_place xs) → AllByRecursion (ChainedProduction bytes) xs → AllByRecursion Low (joined (map production_records xs))
   low_productions [] l c = tt
   low_productions (x ∷ xs) l c =
       let rs = joined (map rule_records x.rules) in (
@@ -69,7 +69,7 @@ rules_of : (rs : List RulePlaces) → length rs ≤ length (joined (map rule_rec
 rules_of [] = omega arith
 rules_of (r ∷ rs) = simp length-append (omega (arith, rules_of rs))
 
-few_in : (n : ℕ) (xs : List ProductionPlaces) → length (joined (map production_records xs)) ≤ n → All (λ x. length x.rules ≤ n) xs
+few_in : (n : ℕ) (xs : List ProductionPlaces) → length (joined (map production_records xs)) ≤ n → AllByRecursion (λ x. length x.rules ≤ n) xs
 few_in n [] l = tt
 few_in n (x ∷ xs) l =
     let rs = joined (map rule_records x.rules) in
@@ -77,7 +77,7 @@ few_in n (x ∷ xs) l =
     let b = length-append x.positions rs in
     (omega (arith, rules_of x.rules), few_in n xs (omega arith))
 
-few_rules : (o : Outline) → Fresh (all_records o) (replicate 4096 false) → All (λ x. length x.rules ≤ 4096) o.productions
+few_rules : (o : Outline) → Fresh (all_records o) (replicate 4096 false) → AllByRecursion (λ x. length x.rules ≤ 4096) o.productions
 few_rules o f =
     let n = length-replicate 4096 false in
     let all = all_records o in
@@ -95,13 +95,13 @@ unique_targets v p law i j d li lj e =
     let y = one.only j (omega arith) (get_or_default ts j t d lj ∙ sym e) in
     x ∙ sym y
   where
-    all_defined : (rs : List Rule) → All (LawfulRule v p) rs → All (λ r. Defined v p (target r)) rs
+    all_defined : (rs : List Rule) → AllByRecursion (LawfulRule v p) rs → AllByRecursion (λ r. Defined v p (target r)) rs
     all_defined [] h = tt
     all_defined (r ∷ rs) h = (h.0.defines, all_defined rs h.1)
 
 module _ (bytes : List ℕ) (small : length bytes ≤ 49152) (v : Vocabulary) (admitted : ℕ → ℕ → ℕ → Bool) where
   module _ (left : ℕ) (right : List ℕ) where
-    held_rules : (rs : List RulePlaces) (before : List Rule) → All (GoodRule bytes v admitted left right) rs → New (map target before) (map target (map (rule_at bytes) rs))
+    held_rules : (rs : List RulePlaces) (before : List Rule) → AllByRecursion (GoodRule bytes v admitted left right) rs → New (map target before) (map target (map (rule_at bytes) rs))
         → Held rule_place rule_rest (may_follow bytes v admitted left right) (one_rule_more bytes) rs before
     held_rules [] before g n = tt
     held_rules (r ∷ rs) before g n =
@@ -141,8 +141,8 @@ module _ (bytes : List ℕ) (small : length bytes ≤ 49152) (v : Vocabulary) (a
         completes = completed v l r (map target rs) (λ o h d. has_from_one rs o (law.one_rule o (h, d)));
       }
 
-  good_productions : (xs : List ProductionPlaces) → All (LawfulProduction v) (map (production_at bytes) xs) → All (ChainedProduction bytes) xs → All (AdmittedProduction admitted) (map (production_at bytes) xs)
-      → All (λ x. length x.rules ≤ 4096) xs → All (GoodProduction bytes v admitted) xs
+  good_productions : (xs : List ProductionPlaces) → AllByRecursion (LawfulProduction v) (map (production_at bytes) xs) → AllByRecursion (ChainedProduction bytes) xs → AllByRecursion (AdmittedProduction admitted) (map (production_at bytes) xs)
+      → AllByRecursion (λ x. length x.rules ≤ 4096) xs → AllByRecursion (GoodProduction bytes v admitted) xs
   good_productions [] l c a f = tt
   good_productions (x ∷ xs) l c a f = (good_production x l.0 c.0 a.0 f.0, good_productions xs l.1 c.1 a.1 f.1)
 

@@ -1,6 +1,6 @@
 -- Chains of records that own no others, and chains whose items make up a list.
 use Rattle.std.proofs.Common.{◌≡◌, ℕ, ◌≤◌, Bool, List, [], ◌∷◌, ◌++◌, map, length, Ok, Result, sym, refl, ap, ◌∙◌}
-use Rattle.std.specs.List.{AllByRecursion as All}
+use Rattle.std.specs.List.{AllByRecursion}
 use Rattle.std.proofs.lemmas.List.{append_assoc, append-nil, map-id}
 use Rattle.refusal.specs.declared.Refusal.{Refusal}
 use Rattle.tables.specs.declared.record.Record.{Record}
@@ -20,11 +20,11 @@ module _ {X Y : Type 0} (place : X → ℕ) (rest : X → List ℕ) (P : List Y 
   gathered_list (x ∷ xs) b = gathered_list xs (push b x) ∙ append_assoc b (f x ∷ []) (map f xs)
 
 module _ {X Y : Type 0} (place : X → ℕ) (rest : X → List ℕ) (Q : X → Type 0) (next : Y → X → Y) where
-  pub all_from_held : (xs : List X) (b : Y) → Held place rest (λ b x. Q x) next xs b → All Q xs
+  pub all_from_held : (xs : List X) (b : Y) → Held place rest (λ b x. Q x) next xs b → AllByRecursion Q xs
   all_from_held [] b h = tt
   all_from_held (x ∷ xs) b h = (h.0, all_from_held xs (next b x) h.1)
 
-  pub held_from_all : (xs : List X) (b : Y) → All Q xs → Held place rest (λ b x. Q x) next xs b
+  pub held_from_all : (xs : List X) (b : Y) → AllByRecursion Q xs → Held place rest (λ b x. Q x) next xs b
   held_from_all [] b h = tt
   held_from_all (x ∷ xs) b h = (h.0, held_from_all xs (next b x) h.1)
 

@@ -1,6 +1,6 @@
 -- Which records are reached.
 use Rattle.std.proofs.Common.{◌≡◌, ℕ, zero, suc, ◌+◌, ◌<◌, ◌≤◌, Bool, true, false, ◌⊎◌, List, [], ◌∷◌, ◌++◌, length, get_or, set, replicate, sym, refl, ap, ◌∙◌, inl, inr, arith, length-set}
-use Rattle.std.specs.List.{AllByRecursion as All}
+use Rattle.std.specs.List.{AllByRecursion}
 use Rattle.std.proofs.lemmas.List.{get_or-set_same, get_or-set_other}
 use Rattle.std.proofs.lemmas.Bool.{cases_eq, both_ways}
 use Rattle.grammar.specs.Members.{◌∈◌}
@@ -51,7 +51,7 @@ apart_from_fresh (x ∷ xs) s n f = (
   apart_from_fresh xs (set s x true) (simp length-set n) f.2,
 )
 
-pub fresh_from_apart : (xs : List ℕ) (s : List Bool) → All (λ x. x < 4096) xs → Apart xs → ((x : ℕ) → x ∈ xs → get_or s x false ≡ false) → Fresh xs s
+pub fresh_from_apart : (xs : List ℕ) (s : List Bool) → AllByRecursion (λ x. x < 4096) xs → Apart xs → ((x : ℕ) → x ∈ xs → get_or s x false ≡ false) → Fresh xs s
 fresh_from_apart [] s l a h = tt
 fresh_from_apart (x ∷ xs) s l a h =
     (l.0, h x (inl refl), fresh_from_apart xs (set s x true) l.1 a.1 (λ y m. get_or-set_other s x y true false (λ e. a.0 (rw (← e) m)) ∙ h y (inr m)))

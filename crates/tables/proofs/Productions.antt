@@ -1,6 +1,6 @@
 -- Reading the productions.
 use Rattle.std.proofs.Common.{◌≡◌, ℕ, ◌≤◌, Bool, true, List, [], ◌∷◌, ◌++◌, map, length, Ok, sym, refl, ap, ◌∙◌, ap₂}
-use Rattle.std.specs.List.{AllByRecursion as All}
+use Rattle.std.specs.List.{AllByRecursion}
 use Rattle.std.proofs.lemmas.Bool.{cond-true}
 use Rattle.grammar.specs.Grammar.{Vocabulary, Production, is_inner, complete}
 use Rattle.grammar.specs.Lawful.{target, Inside}
@@ -28,7 +28,7 @@ module _ (bytes : List ℕ) where
       pub left : is_inner v (left_of x) ≡ true
       pub position_chain : Chain bytes (word bytes x.place 2) x.positions
       pub few_positions : length x.positions ≤ 8
-      pub right : All (Inside v) (right_of x)
+      pub right : AllByRecursion (Inside v) (right_of x)
       pub rule_chain : Chain bytes (word bytes x.place 3) (map rule_place x.rules)
       pub few_rules : length x.rules ≤ 4096
       pub rules : Held rule_place rule_rest (may_follow bytes v admitted (left_of x) (right_of x)) (one_rule_more bytes) x.rules []
@@ -52,7 +52,7 @@ module _ (bytes : List ℕ) (small : length bytes ≤ 49152) (v : Vocabulary) (a
       (sym (ap₂ (λ right s₁. and_then (along bytes (rule bytes v admitted l right) 4096 [] p (word bytes p 3) s₁) (finished_production bytes v admitted b (record_at bytes p) right)) q.gives q.marks) ∙ g.3)
     where
       from : (b : List Production) (p : ℕ) (s : List Bool) (b' : List Production) (s' : List Bool) → is_inner v (word bytes p 1) ≡ true
-          → (ps : List ℕ) → Chain bytes (word bytes p 2) ps → length ps ≤ 8 → Fresh ps s → All (Inside v) (map (λ q. word bytes q 1) ps)
+          → (ps : List ℕ) → Chain bytes (word bytes p 2) ps → length ps ≤ 8 → Fresh ps s → AllByRecursion (Inside v) (map (λ q. word bytes q 1) ps)
           → and_then (along bytes (rule bytes v admitted (word bytes p 1) (map (λ q. word bytes q 1) ps)) 4096 [] p (word bytes p 3) (reach ps s)) (finished_production bytes v admitted b (record_at bytes p) (map (λ q. word bytes q 1) ps)) ≡ Ok (b', s')
           → Took production_place production_rest may_be_production one_production p b s b' s'
       from b p s b' s' inner ps chain few fresh inside e =
@@ -102,7 +102,7 @@ module _ (bytes : List ℕ) (small : length bytes ≤ 49152) (v : Vocabulary) (a
     pub places : List ProductionPlaces
     pub chain : Chain bytes index (map production_place places)
     pub few : length places ≤ 128
-    pub holds : All (GoodProduction bytes v admitted) places
+    pub holds : AllByRecursion (GoodProduction bytes v admitted) places
     pub fresh : Fresh (joined (map production_records places)) s
     pub gives : ps ≡ map (production_at bytes) places
     pub marks : s' ≡ reach (joined (map production_records places)) s
@@ -120,7 +120,7 @@ module _ (bytes : List ℕ) (small : length bytes ≤ 49152) (v : Vocabulary) (a
         holds = all_from_held production_place production_rest (GoodProduction bytes v admitted) one_production w.items [] w.holds;
       }
 
-  pub productions_go : (xs : List ProductionPlaces) (index : ℕ) (s : List Bool) → Chain bytes index (map production_place xs) → length xs ≤ 128 → All (GoodProduction bytes v admitted) xs → Fresh (joined (map production_records xs)) s
+  pub productions_go : (xs : List ProductionPlaces) (index : ℕ) (s : List Bool) → Chain bytes index (map production_place xs) → length xs ≤ 128 → AllByRecursion (GoodProduction bytes v admitted) xs → Fresh (joined (map production_records xs)) s
       → productions bytes v admitted index s ≡ Ok (map (production_at bytes) xs, reach (joined (map production_records xs)) s)
   productions_go xs index s c few h f =
       chain_goes production_place production_rest may_be_production one_production bytes small (production bytes v admitted) production_complete xs 128 [] 0 index s c few

@@ -1,6 +1,6 @@
 -- Reading the positions and the rules of a production.
 use Rattle.std.proofs.Common.{◌≡◌, ℕ, ◌≤◌, Bool, true, false, not, ◌&&◌, eqb, List, [], ◌∷◌, ◌++◌, map, length, Ok, sym, refl, ap, ◌∙◌}
-use Rattle.std.specs.List.{AllByRecursion as All}
+use Rattle.std.specs.List.{AllByRecursion}
 use Rattle.std.proofs.ByRecursion.{All-map}
 use Rattle.std.proofs.lemmas.Bool.{and_parts, and_from, not-true, not_from_false, cond-true, cond-false}
 use Rattle.grammar.specs.declared.production.Occurrence.{Occurrence}
@@ -33,7 +33,7 @@ module _ (bytes : List ℕ) where
     pub few : length places ≤ room
     pub fresh : Fresh places s
     pub gives : ys ≡ map f places
-    pub holds : All Q (map f places)
+    pub holds : AllByRecursion Q (map f places)
     pub marks : s' ≡ reach places s
 
   -- Over a vocabulary and the operations that are admitted: the rules of a production with these symbols.
@@ -46,7 +46,7 @@ module _ (bytes : List ℕ) where
       pub defines : defined v (occurrence_at bytes r.place) ≡ true
       pub chain : Chain bytes (word bytes r.place 3) r.arguments
       pub few : length r.arguments ≤ 8
-      pub uses : All Usable (map (occurrence_at bytes) r.arguments)
+      pub uses : AllByRecursion Usable (map (occurrence_at bytes) r.arguments)
       pub admits : admitted (word bytes r.place 4) (word bytes r.place 5) (length (map (occurrence_at bytes) r.arguments)) ≡ true
 
     abbrev pub may_follow : List Rule → RulePlaces → Type 0
@@ -83,7 +83,7 @@ module _ (bytes : List ℕ) (small : length bytes ≤ 49152) (v : Vocabulary) (a
         marks = w.marks;
       }
 
-  pub positions_go : (ps : List ℕ) (holder index : ℕ) (s : List Bool) → Chain bytes index ps → length ps ≤ 8 → All (Inside v) (map (stands_at bytes) ps) → Fresh ps s
+  pub positions_go : (ps : List ℕ) (holder index : ℕ) (s : List Bool) → Chain bytes index ps → length ps ≤ 8 → AllByRecursion (Inside v) (map (stands_at bytes) ps) → Fresh ps s
       → along bytes (position bytes v admitted) 8 [] holder index s ≡ Ok (map (stands_at bytes) ps, reach ps s)
   positions_go ps holder index s c few h f =
       leaves_go may_be_inside one_position bytes small (position bytes v admitted) position_complete ps 8 [] holder index s c few
@@ -122,7 +122,7 @@ module _ (bytes : List ℕ) (small : length bytes ≤ 49152) (v : Vocabulary) (a
           marks = w.marks;
         }
 
-    arguments_go : (ps : List ℕ) (holder index : ℕ) (s : List Bool) → Chain bytes index ps → length ps ≤ 8 → All (Usable bytes v admitted left right) (map (occurrence_at bytes) ps) → Fresh ps s
+    arguments_go : (ps : List ℕ) (holder index : ℕ) (s : List Bool) → Chain bytes index ps → length ps ≤ 8 → AllByRecursion (Usable bytes v admitted left right) (map (occurrence_at bytes) ps) → Fresh ps s
         → along bytes (argument bytes v admitted left right) 8 [] holder index s ≡ Ok (map (occurrence_at bytes) ps, reach ps s)
     arguments_go ps holder index s c few h f =
         leaves_go may_be_argument one_argument bytes small (argument bytes v admitted left right) argument_complete ps 8 [] holder index s c few

@@ -1,7 +1,7 @@
 -- Reading the symbols with their attributes.
 use Rattle.std.proofs.Common.{◌≡◌, ℕ, suc, ◌+◌, ◌-◌, ◌<◌, ◌≤◌, Bool, true, eqb, leb, List, [], ◌∷◌, ◌++◌, map, length, Some, Ok, sym, refl, ap, ◌∙◌, ap₂, arith, length-append}
 use lib.ListN.{length-map}
-use Rattle.std.specs.List.{AllByRecursion as All}
+use Rattle.std.specs.List.{AllByRecursion}
 use Rattle.std.proofs.lemmas.List.{append_assoc, append-nil, length_push}
 use Rattle.std.proofs.lemmas.Bool.{cond-true, cond-false, leb-false, lt-leb}
 use Rattle.refusal.specs.declared.Refusal.TheVariants.{BadKind}
@@ -48,7 +48,7 @@ module _ (bytes : List ℕ) where
       pub known : symbol_kind (word bytes x.place 1) ≡ Some (kind_at x.place)
       pub chain : Chain bytes (word bytes x.place 2) x.attributes
       pub few : length x.attributes ≤ 16
-      pub good : All (GoodAttribute (kind_at x.place) (eqb start n)) x.attributes
+      pub good : AllByRecursion (GoodAttribute (kind_at x.place) (eqb start n)) x.attributes
 
     abbrev pub GoodSymbols : ℕ → List SymbolPlaces → Type 0
     GoodSymbols n [] = Unit {0}
@@ -81,14 +81,14 @@ module _ (bytes : List ℕ) (small : length bytes ≤ 49152) where
         ∙ ap (λ o. and_then (require o (BadKind p) s) (λ kind s₁. Ok (b ++ record { symbol = number; kind = kind } ∷ [], s₁))) (cond-true (may_stand symbol starts (attribute_kind_of (word bytes p 1))) _ _ h.0.1)
 
     -- at most 64 in all
-    good_from_held : (ps : List ℕ) (b : List Attribute) → length b ≤ 64 → Held itself nothing may_be_attribute one_attribute ps b → All (GoodAttribute bytes symbol starts) ps × (length b + length ps ≤ 64)
+    good_from_held : (ps : List ℕ) (b : List Attribute) → length b ≤ 64 → Held itself nothing may_be_attribute one_attribute ps b → AllByRecursion (GoodAttribute bytes symbol starts) ps × (length b + length ps ≤ 64)
     good_from_held [] b l h = (tt, omega arith)
     good_from_held (p ∷ ps) b l h =
         let n = length_push b (attribute_at bytes number p) in
         let i = good_from_held ps (one_attribute b p) (omega (arith, n, h.0.1)) h.1 in
         ((h.0.0, i.0), omega (arith, n, i.1))
 
-    held_from_good : (ps : List ℕ) (b : List Attribute) → length b + length ps ≤ 64 → All (GoodAttribute bytes symbol starts) ps → Held itself nothing may_be_attribute one_attribute ps b
+    held_from_good : (ps : List ℕ) (b : List Attribute) → length b + length ps ≤ 64 → AllByRecursion (GoodAttribute bytes symbol starts) ps → Held itself nothing may_be_attribute one_attribute ps b
     held_from_good [] b l h = tt
     held_from_good (p ∷ ps) b l h =
         let n = length_push b (attribute_at bytes number p) in

@@ -1,7 +1,7 @@
 -- The vocabulary that records of symbols and attributes write, and that it is lawful.
 use Rattle.std.proofs.Common.{◌≡◌, ℕ, zero, suc, ◌+◌, ◌-◌, ◌<◌, ◌≤◌, Bool, true, eqb, ltb, leb, List, [], ◌∷◌, ◌++◌, map, length, get_or, sym, refl, ap, ◌∙◌, ap₂, inl, inr, arith, length-append}
 use lib.ListN.{length-map}
-use Rattle.std.specs.List.{AllByRecursion as All}
+use Rattle.std.specs.List.{AllByRecursion}
 use Rattle.std.proofs.lemmas.List.{append_assoc, map-append, get_or_at, get_or_append_left, get_or-append_right, get_or-map, length_push}
 use Rattle.std.proofs.ByRecursion.{All-append, All-map, All-weaker, All-get_or}
 use Rattle.std.proofs.lemmas.Bool.{cases_lt, and_parts, and_from, ltb-true, leb-true, lt-ltb, le-leb}
@@ -85,14 +85,14 @@ module _ (bytes : List ℕ) where
         (suc r.0, omega (arith, r.1), ap (λ y. y.symbol) (others n x.attributes (attrs (suc n) xs) a h) ∙ r.2 ∙ (omega arith), omega (arith, r.3), omega (arith, r.4))
   ]
 
-  owners : (xs : List SymbolPlaces) (n : ℕ) → All (λ a. (n ≤ a.symbol) × (a.symbol < n + length xs)) (attrs n xs)
+  owners : (xs : List SymbolPlaces) (n : ℕ) → AllByRecursion (λ a. (n ≤ a.symbol) × (a.symbol < n + length xs)) (attrs n xs)
   owners [] n = tt
   owners (x ∷ xs) n =
       All-append (λ a. (n ≤ a.symbol) × (a.symbol < n + length (x ∷ xs))) (map (attribute_at bytes n) x.attributes) (attrs (suc n) xs)
       (All-map (λ a. (n ≤ a.symbol) × (a.symbol < n + length (x ∷ xs))) (attribute_at bytes n) x.attributes (every x.attributes))
       (All-weaker (λ a. (suc n ≤ a.symbol) × (a.symbol < suc n + length xs)) (λ a. (n ≤ a.symbol) × (a.symbol < n + length (x ∷ xs))) (λ a h. (omega arith, omega arith)) (attrs (suc n) xs) (owners xs (suc n)))
     where
-      every : (ps : List ℕ) → All (λ p. (n ≤ n) × (n < n + length (x ∷ xs))) ps
+      every : (ps : List ℕ) → AllByRecursion (λ p. (n ≤ n) × (n < n + length (x ∷ xs))) ps
       every [] = tt
       every (p ∷ ps) = ((omega arith, omega arith), every ps)
 
@@ -110,7 +110,7 @@ module _ (bytes : List ℕ) where
         kinds_from v xs (before ++ y ∷ []) (suc n) (m + length x.attributes) (e ∙ sym (append_assoc before (y ∷ []) rest)) (length_push before y ∙ (omega arith)) (omega arith),
       )
 
-  pub standing_from : (v : Vocabulary) (xs : List SymbolPlaces) (n : ℕ) → KindsFrom v n xs → GoodSymbols bytes v.start n xs → All (Standing v) (attrs n xs)
+  pub standing_from : (v : Vocabulary) (xs : List SymbolPlaces) (n : ℕ) → KindsFrom v n xs → GoodSymbols bytes v.start n xs → AllByRecursion (Standing v) (attrs n xs)
   standing_from v [] n k g = tt
   standing_from v (x ∷ xs) n k g =
       All-append (Standing v) (map (attribute_at bytes n) x.attributes) (attrs (suc n) xs)
@@ -118,7 +118,7 @@ module _ (bytes : List ℕ) where
       (λ p h. rw k.0 h.1) x.attributes g.0.good))
       (standing_from v xs (suc n) k.1 g.1)
 
-  counts : (start : ℕ) (xs : List SymbolPlaces) (n m : ℕ) → GoodSymbols bytes start n xs → All (λ y. y.count ≤ 16) (syms m xs)
+  counts : (start : ℕ) (xs : List SymbolPlaces) (n m : ℕ) → GoodSymbols bytes start n xs → AllByRecursion (λ y. y.count ≤ 16) (syms m xs)
   counts start [] n m g = tt
   counts start (x ∷ xs) n m g = (g.0.few, counts start xs (suc n) (m + length x.attributes) g.1)
 
@@ -167,11 +167,11 @@ module _ (bytes : List ℕ) where
       ∙ ap₂ (λ l r. l ++ r) (each (kind_at bytes x.place) (eqb start n) x.attributes g.0.good) (attribute_words start xs (suc n) g.1)
       ∙ sym (map-append (λ p. word bytes p 1) x.attributes (joined (map symbol_attributes xs)))
     where
-      each : (kind : SymbolKind) (starts : Bool) (ps : List ℕ) → All (GoodAttribute bytes kind starts) ps
+      each : (kind : SymbolKind) (starts : Bool) (ps : List ℕ) → AllByRecursion (GoodAttribute bytes kind starts) ps
           → map (λ a. attribute_word a.kind) (map (attribute_at bytes n) ps) ≡ map (λ p. word bytes p 1) ps
       each kind starts [] h = refl
       each kind starts (p ∷ ps) h = ap₂ (λ w ws. w ∷ ws) (attribute_known (word bytes p 1) _ h.0.0) (each kind starts ps h.1)
 
-  pub symbol_chains : (start : ℕ) (xs : List SymbolPlaces) (n : ℕ) → GoodSymbols bytes start n xs → All (ChainedSymbol bytes) xs
+  pub symbol_chains : (start : ℕ) (xs : List SymbolPlaces) (n : ℕ) → GoodSymbols bytes start n xs → AllByRecursion (ChainedSymbol bytes) xs
   symbol_chains start [] n g = tt
   symbol_chains start (x ∷ xs) n g = (g.0.chain, symbol_chains start xs (suc n) g.1)

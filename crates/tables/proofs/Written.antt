@@ -1,6 +1,6 @@
 -- A lawful vocabulary that the table stands for is the one that its records write.
 use Rattle.std.proofs.Common.{◌≡◌, ℕ, suc, ◌+◌, ◌-◌, ◌<◌, ◌≤◌, eqb, List, [], ◌∷◌, ◌++◌, map, length, get_or, Some, sym, refl, ap, ◌∙◌, subst, ap₂, arith}
-use Rattle.std.specs.List.{AllByRecursion as All}
+use Rattle.std.specs.List.{AllByRecursion}
 use Rattle.std.proofs.lemmas.List.{map-append}
 use Rattle.std.proofs.ByRecursion.{All-from_get_or}
 use Rattle.grammar.specs.declared.vocabulary.SymbolKind.{SymbolKind}
@@ -108,18 +108,18 @@ module _ (bytes : List ℕ) where
 
   -- what the words of a lawful vocabulary's records are
   symbols_known : (ys : List Symbol) (xs : List SymbolPlaces) → map (λ s. symbol_word s.kind) ys ≡ map (λ s. word bytes s.place 1) xs
-      → All (λ x. symbol_kind (word bytes x.place 1) ≡ Some (kind_at bytes x.place)) xs
+      → AllByRecursion (λ x. symbol_kind (word bytes x.place 1) ≡ Some (kind_at bytes x.place)) xs
   symbols_known ys [] e = tt
   symbols_known [] (x ∷ xs) e = absurd (empty e)
   symbols_known (y ∷ ys) (x ∷ xs) e = (symbol_there y.kind (word bytes x.place 1) (heads e), symbols_known ys xs (tails e))
 
   attributes_known : (ys : List Attribute) (ps : List ℕ) → map (λ a. attribute_word a.kind) ys ≡ map (λ p. word bytes p 1) ps
-      → All (λ p. attribute_kind (word bytes p 1) ≡ Some (attribute_kind_of (word bytes p 1))) ps
+      → AllByRecursion (λ p. attribute_kind (word bytes p 1) ≡ Some (attribute_kind_of (word bytes p 1))) ps
   attributes_known ys [] e = tt
   attributes_known [] (p ∷ ps) e = absurd (empty e)
   attributes_known (y ∷ ys) (p ∷ ps) e = (attribute_there y.kind (word bytes p 1) (heads e), attributes_known ys ps (tails e))
 
-  few_each : (xs : List SymbolPlaces) (m : ℕ) → All (λ y. y.count ≤ 16) (symbols_from bytes m xs) → All (λ x. length x.attributes ≤ 16) xs
+  few_each : (xs : List SymbolPlaces) (m : ℕ) → AllByRecursion (λ y. y.count ≤ 16) (symbols_from bytes m xs) → AllByRecursion (λ x. length x.attributes ≤ 16) xs
   few_each [] m h = tt
   few_each (x ∷ xs) m h = (h.0, few_each xs (m + length x.attributes) h.1)
 
@@ -129,8 +129,8 @@ module _ (bytes : List ℕ) where
   abbrev KnownAttribute : ℕ → Type 0
   KnownAttribute p = attribute_kind (word bytes p 1) ≡ Some (attribute_kind_of (word bytes p 1))
 
-  good_from : (v : Vocabulary) (xs : List SymbolPlaces) (n : ℕ) → KindsFrom bytes v n xs → All (Standing v) (attributes_from bytes n xs)
-      → All Known xs → All KnownAttribute (joined (map symbol_attributes xs)) → All (ChainedSymbol bytes) xs → All (λ x. length x.attributes ≤ 16) xs
+  good_from : (v : Vocabulary) (xs : List SymbolPlaces) (n : ℕ) → KindsFrom bytes v n xs → AllByRecursion (Standing v) (attributes_from bytes n xs)
+      → AllByRecursion Known xs → AllByRecursion KnownAttribute (joined (map symbol_attributes xs)) → AllByRecursion (ChainedSymbol bytes) xs → AllByRecursion (λ x. length x.attributes ≤ 16) xs
       → GoodSymbols bytes v.start n xs
   good_from v [] n k s w a c f = tt
   good_from v (x ∷ xs) n k s w a c f =
@@ -150,7 +150,7 @@ module _ (bytes : List ℕ) where
   pub good_symbols : (start : ℕ) (xs : List SymbolPlaces) → LawfulVocabulary (vocabulary_of bytes start xs)
       → map (λ s. symbol_word s.kind) (symbols_from bytes 1 xs) ≡ map (λ s. word bytes s.place 1) xs
       → map (λ a. attribute_word a.kind) (attributes_from bytes 1 xs) ≡ map (λ p. word bytes p 1) (joined (map symbol_attributes xs))
-      → All (ChainedSymbol bytes) xs → GoodSymbols bytes start 1 xs
+      → AllByRecursion (ChainedSymbol bytes) xs → GoodSymbols bytes start 1 xs
   good_symbols start xs law k a c =
       let v = vocabulary_of bytes start xs in
       good_from v xs 1 (kinds_from bytes v xs [] 1 1 refl refl (omega arith))

@@ -1,6 +1,6 @@
 -- What is wrong with a table that is refused, and that every refusal names such a fault.
 use Rattle.std.specs.Prelude.{◌≡◌, ℕ, suc, ◌+◌, ◌*◌, ◌<◌, ◌≤◌, Bool, true, false, ◌⊎◌, List, [], ◌∷◌, ◌++◌, map, length, replicate, Some, None, Err, ◌==◌}
-use Rattle.std.specs.List.{AllByRecursion as All}
+use Rattle.std.specs.List.{AllByRecursion}
 use Rattle.refusal.specs.declared.Refusal.{Refusal}
 use Rattle.refusal.specs.declared.Refusal.TheVariants.{TableSize, BadIndex, CountPassed, BadKind, NoSuch, BadRule, DefinedArgument, NotAdmitted, BadPlan, Unnumbered, NodeCount, BadLink, BadNode, TooDeep, NotOpened, TooFewCells, PassOpen, ForeignSlip, AllFinished, WalkEnded, NoInstance, NotFinished, Undefined, ListingTooLong, OutOfMemory}
 use Rattle.grammar.specs.declared.vocabulary.SymbolKind.{SymbolKind}
@@ -130,7 +130,7 @@ pub record WrongIndex (bytes : List ℕ) (h : ℕ) : Type 0 where
 -- p is the n-th attribute of the table, counted through its symbols
 pub record AttributeOfAll (bytes : List ℕ) (n p : ℕ) : Type 0 where
   pub before : List SymbolPlaces
-  pub chains : All (ChainedSymbol bytes) before
+  pub chains : AllByRecursion (ChainedSymbol bytes) before
   pub symbol : ℕ
   pub onward : Onward bytes (word bytes 0 0) (map symbol_place before) symbol
   pub here : Names bytes symbol
@@ -175,7 +175,7 @@ pub record Written (bytes : List ℕ) (places : List SymbolPlaces) (symbols : Li
 pub record Writes (bytes : List ℕ) (v : Vocabulary) : Type 0 where
   pub places : List SymbolPlaces
   pub symbol_chain : Chain bytes (word bytes 0 0) (map symbol_place places)
-  pub attribute_chains : All (ChainedSymbol bytes) places
+  pub attribute_chains : AllByRecursion (ChainedSymbol bytes) places
   pub start : v.start ≡ word bytes 0 2
   pub written : Written bytes places v.symbols v.attributes
 

@@ -1,6 +1,6 @@
 -- What a table stands for: records in chains, and the grammar that their words write.
 use Rattle.std.specs.Prelude.{◌≡◌, ℕ, ◌+◌, ◌*◌, ◌≤◌, Bool, true, List, [], ◌∷◌, ◌++◌, map, length}
-use Rattle.std.specs.List.{AllByRecursion as All}
+use Rattle.std.specs.List.{AllByRecursion}
 use Rattle.grammar.specs.declared.vocabulary.SymbolKind.{SymbolKind}
 use Rattle.grammar.specs.declared.vocabulary.SymbolKind.TheVariants.{Inner, Terminal}
 use Rattle.grammar.specs.declared.vocabulary.AttributeKind.{AttributeKind}
@@ -53,7 +53,7 @@ abbrev pub ChainedProduction : List ℕ → ProductionPlaces → Type 0
 ChainedProduction bytes p =
     Chain bytes (word bytes p.place 2) p.positions
     × Chain bytes (word bytes p.place 3) (map rule_place p.rules)
-    × All (ChainedRule bytes) p.rules
+    × AllByRecursion (ChainedRule bytes) p.rules
 
 -- every record of the outline, in reading order
 abbrev pub joined : List (List ℕ) → List ℕ
@@ -112,9 +112,9 @@ production_at bytes p = record {
 -- The table stands for the grammar, by the records of the outline.
 pub record Stands (bytes : List ℕ) (o : Outline) (g : Grammar) : Type 0 where
   pub symbol_chain : Chain bytes (word bytes 0 0) (map symbol_place o.symbols)
-  pub attribute_chains : All (ChainedSymbol bytes) o.symbols
+  pub attribute_chains : AllByRecursion (ChainedSymbol bytes) o.symbols
   pub production_chain : Chain bytes (word bytes 0 1) (map production_place o.productions)
-  pub production_chains : All (ChainedProduction bytes) o.productions
+  pub production_chains : AllByRecursion (ChainedProduction bytes) o.productions
   pub apart : Apart (all_records o)
   pub start : g.vocabulary.start ≡ word bytes 0 2
   pub symbol_kinds : map (λ s. symbol_word s.kind) g.vocabulary.symbols ≡ map (λ s. word bytes s.place 1) o.symbols
@@ -127,7 +127,7 @@ abbrev pub AdmittedRule : (ℕ → ℕ → ℕ → Bool) → Rule → Type 0
 AdmittedRule admitted r = admitted r.operation r.constant (length r.arguments) ≡ true
 
 abbrev pub AdmittedProduction : (ℕ → ℕ → ℕ → Bool) → Production → Type 0
-AdmittedProduction admitted p = All (AdmittedRule admitted) p.rules
+AdmittedProduction admitted p = AllByRecursion (AdmittedRule admitted) p.rules
 
 abbrev pub Admitted : (ℕ → ℕ → ℕ → Bool) → Grammar → Type 0
-Admitted admitted g = All (AdmittedProduction admitted) g.productions
+Admitted admitted g = AllByRecursion (AdmittedProduction admitted) g.productions

@@ -1,6 +1,6 @@
 -- A row is accepted exactly when it holds a derivation tree, and it holds one at most.
 use Rattle.std.proofs.Common.{◌≡◌, ℕ, zero, suc, ◌+◌, ◌<◌, ◌≤◌, Bool, true, false, ◌&&◌, eqb, leb, List, ◌∷◌, length, get_or, set, replicate, Ok, Err, Result, sym, refl, ap, ◌∙◌, inl, inr, arith}
-use Rattle.std.specs.List.{AllByRecursion as All}
+use Rattle.std.specs.List.{AllByRecursion}
 use Rattle.std.proofs.lemmas.List.{length-replicate}
 use Rattle.std.proofs.ByRecursion.{All-append}
 use Rattle.std.proofs.lemmas.Bool.{eq-eqb, leb-true, le-leb, cond-true, and_parts, and_from, both_ways, cases_eq}
@@ -64,7 +64,7 @@ accepted_holds_a_tree g nodes e =
     (leb-true 1 (length nodes) p.0, few, grown_stands g nodes a.0 few a.1 a.2)
 
 -- the nodes of a forest are among those of the row
-numbers_low : (nodes : List Node) (f : Forest) (index : ℕ) → length nodes ≤ 4096 → Holds nodes index f → All (λ n. n < 4096) (numbers f)
+numbers_low : (nodes : List Node) (f : Forest) (index : ℕ) → length nodes ≤ 4096 → Holds nodes index f → AllByRecursion (λ n. n < 4096) (numbers f)
 numbers_low nodes none index few h = tt
 numbers_low nodes (brother n s p below rest) index few h =
     (omega (arith, h.2), All-append (λ m. m < 4096) (numbers below) (numbers rest) (numbers_low nodes below (node nodes n).first_child few h.5) (numbers_low nodes rest (node nodes n).next_brother few h.6))
