@@ -4,6 +4,7 @@ pub mod FirstNumbers
 pub mod FoundRules
 pub mod Labels
 pub mod Members
+pub mod ByNumber
 pub mod Relations
 pub mod Slots
 pub mod Wants

@@ -1,7 +1,12 @@
--- The members of a list.
-use Rattle.std.specs.Prelude.{◌≡◌, ◌⊎◌, List, [], ◌∷◌}
+-- The members of a list, and their numbers.
+use Rattle.std.specs.Prelude.{◌≡◌, ℕ, zero, suc, ◌⊎◌, List, [], ◌∷◌, None, Option, slice_get}
 
 infix 20 ◌∈◌
 abbrev pub ◌∈◌ : {A : Type 0} → A → List A → Type 0
 x ∈ [] = ⊥
 x ∈ (y ∷ ys) = (x ≡ y) ⊎ (x ∈ ys)
+
+-- the one that has a number, where they are numbered from 1
+abbrev pub numbered : {A : Type 0} → List A → ℕ → Option A
+numbered xs zero = None
+numbered xs (suc n) = slice_get xs n

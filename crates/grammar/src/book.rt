@@ -10,6 +10,8 @@ use crate::production::Production;
 use crate::vocabulary::{MOST_ATTRIBUTES, Vocabulary};
 use plans::Direction;
 
+mod lookup;
+
 // The most passes that a plan may have.
 pub const MOST_PASSES: usize = 128;
 

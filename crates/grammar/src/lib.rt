@@ -3,6 +3,7 @@
 
 pub mod board;
 pub mod book;
+mod numbered;
 mod numbers;
 pub mod production;
 #[cfg(test)]

@@ -1,5 +1,7 @@
 // The vocabulary of a grammar: its symbols, and the attributes that they have.
 
+mod lookup;
+
 // The most attributes that a grammar may have.
 pub const MOST_ATTRIBUTES: usize = 64;
 

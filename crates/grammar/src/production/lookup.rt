@@ -6,6 +6,7 @@ ghost use Rattle.grammar.specs.Lookup.{rule_of};
 ghost use Rattle.grammar.specs.Rules.{Within};
 
 use super::{Occurrence, Production, Rule};
+use crate::numbered::numbered;
 use crate::vocabulary::MOST_ATTRIBUTES;
 
 // The longest right side ends at this position.
@@ -22,10 +23,7 @@ impl Production {
         if position > LAST_POSITION || attribute == 0 || attribute > MOST_ATTRIBUTES {
             return None;
         }
-        let number = self.slots[MOST_ATTRIBUTES * position + attribute - 1] as usize;
-        if number == 0 {
-            return None;
-        }
-        Some(&self.rules[number - 1])
+        let number = self.slots[MOST_ATTRIBUTES * position + attribute - 1];
+        numbered(&self.rules, number)
     }
 }
