@@ -1,6 +1,7 @@
 pub mod Members
 pub mod Rules
 pub mod Grammar
+pub mod Kinds
 pub mod Lookup
 pub mod Lawful
 pub mod Arcs

@@ -1,5 +1,6 @@
-// Labels of arcs by their positions, and first numbers by kind.
-use super::{Attribute, AttributeKind, arc_label, unnumbered};
+// Labels of arcs by their positions, first numbers by kind, and kinds by number.
+use super::{Attribute, AttributeKind, SymbolKind, UnknownKind, arc_label, unnumbered};
+use std::test::Fail;
 
 #[test]
 fn labels_at_one_position(rt: HostRuntime) {
@@ -64,4 +65,15 @@ fn numbers_of_many(rt: HostRuntime) {
     let numbers = unnumbered(&attributes);
     assert_eq!(rt; numbers[0], 0);
     assert_eq!(rt; numbers[63], 0);
+}
+
+#[test]
+fn kinds_by_number(rt: HostRuntime) -> Result<(), Fail> {
+    assert_eq!(rt; SymbolKind::try_from(1), Ok(SymbolKind::Inner));
+    assert_eq!(rt; SymbolKind::try_from(3), Err(UnknownKind(3)));
+    assert_eq!(rt; AttributeKind::try_from(3), Ok(AttributeKind::Given));
+    assert_eq!(rt; AttributeKind::try_from(0), Err(UnknownKind(0)));
+    let text = UnknownKind(0).to_string(rt.alloc())?;
+    assert_eq!(rt; text.as_str(), "no kind has number 0");
+    Ok(())
 }

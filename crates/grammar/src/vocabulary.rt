@@ -1,5 +1,6 @@
 // The vocabulary of a grammar: its symbols, and the attributes that they have.
 
+mod kinds;
 mod lookup;
 
 // The most attributes that a grammar may have.
@@ -7,16 +8,20 @@ pub const MOST_ATTRIBUTES: usize = 64;
 
 #[derive(Clone, Copy, PartialEq, Eq, Debug)]
 pub enum SymbolKind {
-    Inner,
-    Terminal,
+    Inner = 1,
+    Terminal = 2,
 }
 
 #[derive(Clone, Copy, PartialEq, Eq, Debug)]
 pub enum AttributeKind {
-    Inherited,
-    Synthesized,
-    Given,
+    Inherited = 1,
+    Synthesized = 2,
+    Given = 3,
 }
+
+// A number that names no kind.
+#[derive(Clone, Copy, PartialEq, Eq, Debug)]
+pub struct UnknownKind(pub u16);
 
 // A symbol has `count` attributes, numbered in a row from `first` on.
 #[derive(Clone, Copy, PartialEq, Eq, Debug)]

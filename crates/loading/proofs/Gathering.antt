@@ -9,7 +9,8 @@ use Rattle.grammar.specs.declared.vocabulary.Attribute.{Attribute}
 use Rattle.grammar.specs.declared.vocabulary.Symbol.{Symbol}
 use Rattle.tables.specs.declared.record.Record.{Record}
 use Rattle.tables.specs.Chains.{and_then}
-use Rattle.tables.specs.Reading.{Gathered, symbol_kind, attribute_kind, standing, require, attribute, attributes, symbol}
+use Rattle.grammar.specs.Kinds.{symbol_kind, attribute_kind}
+use Rattle.tables.specs.Reading.{Gathered, standing, require, attribute, attributes, symbol}
 
 module _ (bytes : List ℕ) (number : ℕ) (kind : SymbolKind) (starts : Bool) (before : List Attribute) (r : Record) (s : List Bool) where
   pub attribute_passed : 64 ≤ length before → attribute bytes number kind starts before r s ≡ Err (CountPassed r.place)

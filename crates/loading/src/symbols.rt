@@ -1,6 +1,7 @@
 // Reads the vocabulary of a table: its symbols, each with its attributes.
 ghost use Rattle.std.specs.Prelude.{◌≡◌, ℕ, ◌≤◌, IfOk, vec_len, OnOk};
-ghost use Rattle.tables.specs.Reading.{Gives, symbol_kind, attribute_kind, standing, attributes as attributes_read, symbols as symbols_read};
+ghost use Rattle.grammar.specs.Kinds.{symbol_kind, attribute_kind};
+ghost use Rattle.tables.specs.Reading.{Gives, standing, attributes as attributes_read, symbols as symbols_read};
 ghost use Rattle.loading.specs.Views.{gathered};
 
 use grammar::{Attribute, AttributeKind, Symbol, SymbolKind, Vocabulary};

@@ -12,7 +12,8 @@ use Rattle.grammar.specs.declared.vocabulary.AttributeKind.TheVariants.{Inherite
 use Rattle.grammar.specs.declared.vocabulary.Attribute.{Attribute}
 use Rattle.grammar.specs.Lawful.{may_stand}
 use Rattle.tables.specs.Chains.{word, record_at}
-use Rattle.tables.specs.Reading.{require, symbol_kind, attribute_kind, standing, Gathered, attribute, attributes, symbol, symbols}
+use Rattle.grammar.specs.Kinds.{symbol_kind, attribute_kind}
+use Rattle.tables.specs.Reading.{require, standing, Gathered, attribute, attributes, symbol, symbols}
 use Rattle.tables.specs.Tables.{Chain, SymbolPlaces, symbol_place, symbol_attributes, ChainedSymbol, joined, symbol_word, attribute_word}
 use Rattle.tables.specs.Faults.{Names, Onward, at_symbol, at_attribute, SymbolRecord, Fault, many_symbols, many_of_one_symbol, many_attributes, wrong_symbol, wrong_attribute, firsts, owners, Written}
 use Rattle.tables.proofs.FaultsComes.{Comes, comes_then, comes_cond, comes_require}

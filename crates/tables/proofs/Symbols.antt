@@ -10,7 +10,8 @@ use Rattle.grammar.specs.declared.vocabulary.Symbol.{Symbol}
 use Rattle.grammar.specs.declared.vocabulary.Attribute.{Attribute}
 use Rattle.grammar.specs.Lawful.{may_stand}
 use Rattle.tables.specs.Chains.{Reading, and_then, word, record_at}
-use Rattle.tables.specs.Reading.{Gathered, require, symbol_kind, attribute_kind, standing, attribute, attributes, symbol, symbols}
+use Rattle.grammar.specs.Kinds.{symbol_kind, attribute_kind}
+use Rattle.tables.specs.Reading.{Gathered, require, standing, attribute, attributes, symbol, symbols}
 use Rattle.tables.specs.Tables.{Chain, SymbolPlaces, symbol_place, symbol_records, joined}
 use Rattle.tables.proofs.Words.{symbol_kind_of, attribute_kind_of, symbol_kind_is, attribute_kind_is, standing_known}
 use Rattle.tables.proofs.Outcomes.{same_value, test_failed, both_read, was_there}

@@ -6,7 +6,8 @@ use Rattle.grammar.specs.declared.vocabulary.SymbolKind.TheVariants.{Inner, Term
 use Rattle.grammar.specs.declared.vocabulary.AttributeKind.{AttributeKind}
 use Rattle.grammar.specs.declared.vocabulary.AttributeKind.TheVariants.{Inherited, Synthesized, Given}
 use Rattle.grammar.specs.Lawful.{may_stand}
-use Rattle.tables.specs.Reading.{symbol_kind, attribute_kind, standing}
+use Rattle.grammar.specs.Kinds.{symbol_kind, attribute_kind}
+use Rattle.tables.specs.Reading.{standing}
 use Rattle.tables.specs.Tables.{symbol_word, attribute_word}
 
 none_is_not_some : {A : Type 0} {a : A} → ◌≡◌ {A = Option A} None (Some a) → ⊥

@@ -10,7 +10,7 @@ use Rattle.grammar.specs.declared.vocabulary.Attribute.{Attribute}
 use Rattle.grammar.specs.Grammar.{Vocabulary, no_symbol, no_attribute, symbol, attribute}
 use Rattle.grammar.specs.Lawful.{Rows, LawfulVocabulary}
 use Rattle.tables.specs.Chains.{word}
-use Rattle.tables.specs.Reading.{symbol_kind, attribute_kind}
+use Rattle.grammar.specs.Kinds.{symbol_kind, attribute_kind}
 use Rattle.tables.specs.Tables.{SymbolPlaces, ChainedSymbol, symbol_word, attribute_word, symbol_attributes, joined}
 use Rattle.tables.proofs.Elements.{all_unmap, all_left, all_right, all_with}
 use Rattle.tables.proofs.Words.{symbol_word_known, attribute_word_known, symbol_kind_of, attribute_kind_of, symbol_kind_is, attribute_kind_is}

@@ -10,7 +10,8 @@ use Rattle.grammar.specs.declared.production.Occurrence.{Occurrence}
 use Rattle.grammar.specs.Members.{◌∈◌}
 use Rattle.grammar.specs.Grammar.{Vocabulary, is_symbol, is_inner, occurs, defined}
 use Rattle.tables.specs.Chains.{word, Sized}
-use Rattle.tables.specs.Reading.{reading, symbol_kind, attribute_kind, standing}
+use Rattle.grammar.specs.Kinds.{symbol_kind, attribute_kind}
+use Rattle.tables.specs.Reading.{reading, standing}
 use Rattle.tables.specs.Tables.{Chain, SymbolPlaces, symbol_place, symbol_attributes, ChainedSymbol, joined, symbol_word, attribute_word, occurrence_at}
 
 -- the index names a record of the table; 0 ends a chain

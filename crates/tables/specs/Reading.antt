@@ -3,12 +3,11 @@ use Rattle.std.specs.Prelude.{◌≡◌, ℕ, suc, ◌-◌, Bool, false, cond, n
 use Rattle.refusal.specs.declared.Refusal.{Refusal}
 use Rattle.refusal.specs.declared.Refusal.TheVariants.{TableSize, CountPassed, BadKind, NoSuch, BadRule, DefinedArgument, NotAdmitted, OutOfMemory}
 use Rattle.grammar.specs.declared.vocabulary.SymbolKind.{SymbolKind}
-use Rattle.grammar.specs.declared.vocabulary.SymbolKind.TheVariants.{Inner, Terminal}
 use Rattle.grammar.specs.declared.vocabulary.AttributeKind.{AttributeKind}
-use Rattle.grammar.specs.declared.vocabulary.AttributeKind.TheVariants.{Inherited, Synthesized, Given}
 use Rattle.grammar.specs.declared.vocabulary.Symbol.{Symbol}
 use Rattle.grammar.specs.declared.vocabulary.Attribute.{Attribute}
 use Rattle.grammar.specs.declared.production.Occurrence.{Occurrence}
+use Rattle.grammar.specs.Kinds.{symbol_kind, attribute_kind}
 use Rattle.grammar.specs.Rules.{has_rule}
 use Rattle.grammar.specs.Grammar.{Vocabulary, Rule, Production, Grammar, is_symbol, is_inner, occurs, defined, complete}
 use Rattle.grammar.specs.Lawful.{may_stand, target}
@@ -19,13 +18,6 @@ use Rattle.tables.specs.Chains.{Reading, and_then, along, record_at, sized}
 abbrev pub require : {A : Type 0} → Option A → Refusal → Reading A
 require None e reached = Err e
 require (Some a) e reached = Ok (a, reached)
-
--- kinds by their words
-abbrev pub symbol_kind : ℕ → Option SymbolKind
-symbol_kind w = cond (w == 1) (Some Inner) (cond (w == 2) (Some Terminal) None)
-
-abbrev pub attribute_kind : ℕ → Option AttributeKind
-attribute_kind w = cond (w == 1) (Some Inherited) (cond (w == 2) (Some Synthesized) (cond (w == 3) (Some Given) None))
 
 -- a kind of attribute where it may stand
 abbrev pub standing : SymbolKind → Bool → Option AttributeKind → Option AttributeKind
