@@ -1,20 +1,14 @@
 // What is proved of numberings, each theorem on the contract of a function.
 ghost use Rattle.numbering.specs.Theorems.{LeastIsUnique, DeletionIsLeast, DeletionNumbersGrammars};
 
-pub fn least_is_unique() -> u8
+pub fn least_is_unique()
     ensures { LeastIsUnique }
-{
-    0
-}
+{}
 
-pub fn deletion_is_least() -> u8
+pub fn deletion_is_least()
     ensures { DeletionIsLeast }
-{
-    0
-}
+{}
 
-pub fn deletion_numbers_grammars() -> u8
+pub fn deletion_numbers_grammars()
     ensures { DeletionNumbersGrammars }
-{
-    0
-}
+{}

@@ -1,38 +1,26 @@
 // What an evaluator may take from an accepted row, each law on the contract of a function.
 ghost use Rattle.trees.specs.Laws.{ChildrenHaveTheSymbols, NodesHaveTheirChildren, ChildHasItsSymbol, ParentIsUnique, EveryNodeHasAParent, CellsDiffer};
 
-pub fn children_have_the_symbols() -> u8
+pub fn children_have_the_symbols()
     ensures { ChildrenHaveTheSymbols }
-{
-    0
-}
+{}
 
-pub fn nodes_have_their_children() -> u8
+pub fn nodes_have_their_children()
     ensures { NodesHaveTheirChildren }
-{
-    0
-}
+{}
 
-pub fn child_has_its_symbol() -> u8
+pub fn child_has_its_symbol()
     ensures { ChildHasItsSymbol }
-{
-    0
-}
+{}
 
-pub fn parent_is_unique() -> u8
+pub fn parent_is_unique()
     ensures { ParentIsUnique }
-{
-    0
-}
+{}
 
-pub fn every_node_has_a_parent() -> u8
+pub fn every_node_has_a_parent()
     ensures { EveryNodeHasAParent }
-{
-    0
-}
+{}
 
-pub fn cells_differ() -> u8
+pub fn cells_differ()
     ensures { CellsDiffer }
-{
-    0
-}
+{}

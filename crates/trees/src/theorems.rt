@@ -2,26 +2,18 @@
 ghost use Rattle.trees.specs.Faults.{RefusalNamesAFault};
 ghost use Rattle.trees.specs.Theorems.{AcceptedHoldsATree, TreesAreAccepted, TreeIsUnique};
 
-pub fn accepted_holds_a_tree() -> u8
+pub fn accepted_holds_a_tree()
     ensures { AcceptedHoldsATree }
-{
-    0
-}
+{}
 
-pub fn trees_are_accepted() -> u8
+pub fn trees_are_accepted()
     ensures { TreesAreAccepted }
-{
-    0
-}
+{}
 
-pub fn tree_is_unique() -> u8
+pub fn tree_is_unique()
     ensures { TreeIsUnique }
-{
-    0
-}
+{}
 
-pub fn refusal_names_a_fault() -> u8
+pub fn refusal_names_a_fault()
     ensures { RefusalNamesAFault }
-{
-    0
-}
+{}

@@ -2,50 +2,34 @@
 ghost use Rattle.walk.specs.Walks.{InnerNodesHaveInnerSymbols, WalkLength, WalkEntersEachOnce, WalkLeavesEachOnce, BrothersAreVisitedInOrder, WalkNests};
 ghost use Rattle.walk.specs.Turns.{WalkHasItsSteps, WalkGoesInTurn};
 
-pub fn inner_nodes_have_inner_symbols() -> u8
+pub fn inner_nodes_have_inner_symbols()
     ensures { InnerNodesHaveInnerSymbols }
-{
-    0
-}
+{}
 
-pub fn walk_length() -> u8
+pub fn walk_length()
     ensures { WalkLength }
-{
-    0
-}
+{}
 
-pub fn walk_enters_each_once() -> u8
+pub fn walk_enters_each_once()
     ensures { WalkEntersEachOnce }
-{
-    0
-}
+{}
 
-pub fn walk_leaves_each_once() -> u8
+pub fn walk_leaves_each_once()
     ensures { WalkLeavesEachOnce }
-{
-    0
-}
+{}
 
-pub fn brothers_are_visited_in_order() -> u8
+pub fn brothers_are_visited_in_order()
     ensures { BrothersAreVisitedInOrder }
-{
-    0
-}
+{}
 
-pub fn walk_nests() -> u8
+pub fn walk_nests()
     ensures { WalkNests }
-{
-    0
-}
+{}
 
-pub fn walk_has_its_steps() -> u8
+pub fn walk_has_its_steps()
     ensures { WalkHasItsSteps }
-{
-    0
-}
+{}
 
-pub fn walk_goes_in_turn() -> u8
+pub fn walk_goes_in_turn()
     ensures { WalkGoesInTurn }
-{
-    0
-}
+{}
