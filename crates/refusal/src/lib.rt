@@ -1,11 +1,17 @@
 // Why a call is refused: the one fault type of all calls.
 #![tactic(auto)]
 
-ghost use Rattle.std.specs.Prelude.{◌≡◌};
+ghost use Rattle.std.specs.Prelude.{◌≡◌, Some};
 ghost use Rattle.refusal.specs.Numbers.{number, place};
+ghost use Rattle.refusal.specs.Texts.{place_text, refusal_text};
 ghost use Rattle.refusal.specs.declared.Refusal.TheVariants.{OutOfMemory};
 
 use std::alloc::{AllocError, AllocFailed};
+use std::error::Error;
+use std::fmt;
+
+#[cfg(test)]
+mod tests;
 
 // An attribute of a node, for which a value is wanted.
 #[derive(Clone, Copy, PartialEq, Eq, Debug)]
@@ -142,6 +148,31 @@ impl Refusal {
         }
     }
 }
+
+impl fmt::Display for Place {
+    ghost output = { λ p. Some (place_text p) };
+
+    fn fmt<W: fmt::Write>(&self, f: &mut fmt::Formatter<W>) -> fmt::Result {
+        match self {
+            Place::At(place) => write!(f, "{place}"),
+            Place::Instance(Site { node, attribute }) => {
+                write!(f, "attribute {attribute} of node {node}")
+            }
+        }
+    }
+}
+
+impl fmt::Display for Refusal {
+    ghost output = { λ r. Some (refusal_text r) };
+
+    fn fmt<W: fmt::Write>(&self, f: &mut fmt::Formatter<W>) -> fmt::Result {
+        let number = self.number();
+        let place = self.place();
+        write!(f, "refused {number} at {place}")
+    }
+}
+
+impl Error for Refusal {}
 
 impl From<AllocError> for Refusal {
     ghost from_gives = { λ _ r. r ≡ OutOfMemory };
