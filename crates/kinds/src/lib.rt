@@ -1,10 +1,12 @@
 // Value kinds: what the values of attributes are, and what a rule's operation makes of them.
 #![tactic(auto)]
 
-ghost use Rattle.std.specs.Prelude.{◌≡◌, ℕ, Bool, false, None, Option};
+ghost use Rattle.std.specs.Prelude.{◌≡◌, ◌++◌, ℕ, Bool, false, Some, None, Option, codes, decimal};
 ghost use Rattle.std.specs.Option.{ok_or};
 
 use refusal::{Refusal, Site};
+use std::error::Error;
+use std::fmt;
 
 pub mod lengths;
 pub mod marks;
@@ -47,3 +49,17 @@ pub trait ValueKind {
 
     ghost unadmitted: { (k : Self) (operation constant count : ℕ) → admitted k operation constant count ≡ false → starts k operation constant count ≡ None };
 }
+
+// A number that no operation of a kind has.
+#[derive(Clone, Copy, PartialEq, Eq, Debug)]
+pub struct UnknownOperation(pub u16);
+
+impl fmt::Display for UnknownOperation {
+    ghost output = { λ e. Some (codes "no operation has number " ++ decimal e.0) };
+
+    fn fmt<W: fmt::Write>(&self, f: &mut fmt::Formatter<W>) -> fmt::Result {
+        write!(f, "no operation has number {}", self.0)
+    }
+}
+
+impl Error for UnknownOperation {}

@@ -1,20 +1,50 @@
 // Marks: small numbers, of which 0 says that there is no mark.
 ghost use Rattle.std.specs.Prelude.{◌≡◌};
-ghost use Rattle.kinds.specs.Marks.{agreed, mark_admitted, mark_starts, mark_steps};
+ghost use Rattle.kinds.specs.Marks.{agreed, mark_admitted, mark_operation, mark_starts, mark_steps, NamesMarkOperation};
 ghost use Rattle.std.proofs.Common.{rules};
 
-use super::ValueKind;
+use super::{UnknownOperation, ValueKind};
 use refusal::{Refusal, Site};
 
 pub struct Marks;
 
-pub const CONSTANT: u16 = 1;
-
-pub const LATEST: u16 = 2;
-
-pub const AGREEMENT: u16 = 3;
+// What a rule does with its arguments, under the number that a table gives it.
+#[derive(Clone, Copy, PartialEq, Eq, Debug)]
+pub enum Operation {
+    Constant = 1,
+    Latest = 2,
+    Agreement = 3,
+}
 
 const GREATEST: u16 = 255;
+
+impl TryFrom<u16> for Operation {
+    type Error = UnknownOperation;
+
+    ghost try_from_gives = { NamesMarkOperation };
+
+    fn try_from(number: u16) -> Result<Operation, UnknownOperation> {
+        match number {
+            1 => Ok(Operation::Constant),
+            2 => Ok(Operation::Latest),
+            3 => Ok(Operation::Agreement),
+            _ => Err(UnknownOperation(number)),
+        }
+    }
+}
+
+impl Operation {
+    fn combined(self, so_far: u8, argument: u8) -> Option<u8>
+        ensures { result ≡ mark_steps (mark_operation self) so_far argument }
+    {
+        match self {
+            Operation::Constant => None,
+            Operation::Latest if argument == 0 => Some(so_far),
+            Operation::Latest => Some(argument),
+            Operation::Agreement => agreement(so_far, argument),
+        }
+    }
+}
 
 impl ValueKind for Marks {
     type Value = u8;
@@ -28,14 +58,12 @@ impl ValueKind for Marks {
     ghost unadmitted = { Prim.search rules };
 
     fn admits(&self, operation: u16, constant: u16, count: usize) -> bool {
-        if constant > GREATEST {
-            return false;
-        }
-        match operation {
-            CONSTANT => count == 0,
-            LATEST | AGREEMENT => count > 0,
-            _ => false,
-        }
+        constant <= GREATEST
+            && match Operation::try_from(operation) {
+                Ok(Operation::Constant) => count == 0,
+                Ok(Operation::Latest | Operation::Agreement) => count > 0,
+                Err(_) => false,
+            }
     }
 
     fn start(
@@ -45,24 +73,16 @@ impl ValueKind for Marks {
         constant: u16,
         count: usize,
     ) -> Result<u8, Refusal> {
-        if self.admits(operation, constant, count) {
-            Ok(constant as u8)
-        } else {
-            Err(Refusal::Undefined { site })
-        }
+        self.admits(operation, constant, count)
+            .then(|| constant as u8)
+            .ok_or(Refusal::Undefined { site })
     }
 
     fn step(&self, site: Site, operation: u16, so_far: u8, argument: u8) -> Result<u8, Refusal> {
-        let mark = match operation {
-            LATEST if argument == 0 => Some(so_far),
-            LATEST => Some(argument),
-            AGREEMENT => agreement(so_far, argument),
-            _ => None,
-        };
-        match mark {
-            Some(mark) => Ok(mark),
-            None => Err(Refusal::Undefined { site }),
-        }
+        Operation::try_from(operation)
+            .ok()
+            .and_then(|operation| operation.combined(so_far, argument))
+            .ok_or(Refusal::Undefined { site })
     }
 }
 
