@@ -1,2 +1,1 @@
-mod Letters
 mod Plans

@@ -1,26 +1,28 @@
 -- Lengths and directions of the two kinds of plan.
-use Rattle.std.proofs.Common.{◌≡◌, ℕ, zero, suc, ◌-◌, ◌<◌, ◌≤◌, List, [], ◌∷◌, length, get_or, take, Some, None, sym, refl, ap, ◌∙◌, arith}
-use Rattle.std.proofs.lemmas.List.{length-take-le, get_or-take}
+use Rattle.std.proofs.Common.{◌≡◌, ℕ, zero, suc, ◌-◌, ◌<◌, ◌≤◌, false, not, List, [], ◌∷◌, length, get_or, slice_get, option_map, Some, None, is_some, sym, refl, ap, ◌∙◌, arith, rules}
+use Rattle.std.specs.Result.{result_ok}
+use Rattle.std.proofs.lemmas.List.Sums.{fails_before_first}
+use Rattle.std.proofs.lemmas.Option.{slice_get-map, slice_get_past, slice_get_read}
 use Rattle.std.proofs.lemmas.Bool.Decides.{nat_tests}
 use Rattle.plans.specs.declared.Direction.{Direction}
 use Rattle.plans.specs.declared.Direction.TheVariants.{Left, Right}
-use Rattle.plans.specs.Plans.{alternating, direction_at, in_turn, letter_direction, opposite, written}
+use Rattle.plans.specs.Plans.{alternating, byte_direction, direction_at, first_wrong, in_turn, letter, letter_direction, opposite, written}
 
 before_first : (ds : List Direction) → direction_at ds 0 ≡ None
 unfolding direction_at
 before_first [] = refl
 before_first (d ∷ ds) = refl
 
-past_last : (ds : List Direction) (pass : ℕ) → length ds < pass → direction_at ds pass ≡ None
+-- the first pass goes by the direction at place 0
+at_place : (ds : List Direction) (k : ℕ) → direction_at ds (suc k) ≡ slice_get ds k
 unfolding direction_at
-past_last [] pass h = refl
-past_last (d ∷ ds) zero h = refl
-past_last (d ∷ ds) (suc zero) h = absurd (omega arith)
-past_last (d ∷ ds) (suc (suc pass)) h = past_last ds (suc pass) (omega arith)
+at_place [] k = sym (slice_get_past [] k (omega arith))
+at_place (d ∷ ds) zero = refl
+at_place (d ∷ ds) (suc k) = at_place ds k
 
 pub outside : (ds : List Direction) (pass : ℕ) → (1 ≤ pass → length ds < pass) → direction_at ds pass ≡ None
 outside ds zero h = before_first ds
-outside ds (suc pass) h = past_last ds (suc pass) (h (omega arith))
+outside ds (suc k) h = at_place ds k ∙ slice_get_past ds k (omega (arith, h (omega arith)))
 
 pub length-alternating : (d : Direction) (n : ℕ) → length (alternating d n) ≡ n
 unfolding alternating
@@ -41,20 +43,12 @@ pub alternating_direction : (d : Direction) (n pass : ℕ) → 1 ≤ pass → pa
 alternating_direction d n zero h k = absurd (omega arith)
 alternating_direction d n (suc pass) h k = alternating_at d n pass (omega arith)
 
-pub length-written : (bytes : List ℕ) → length (written bytes) ≡ length bytes
-length-written [] = refl
-length-written (b ∷ bs) = ap suc (length-written bs)
-
-written_at : (bytes : List ℕ) (k : ℕ) → k < length bytes → direction_at (written bytes) (suc k) ≡ Some (letter_direction (get_or bytes k 0))
-unfolding direction_at
-written_at [] k h = absurd (omega arith)
-written_at (b ∷ bs) zero h = refl
-written_at (b ∷ bs) (suc k) h = written_at bs k (omega arith)
-
-pub written_direction : (letters : List ℕ) (count pass : ℕ) → 1 ≤ pass → pass ≤ count → count ≤ length letters
-    → direction_at (written (take count letters)) pass ≡ Some (letter_direction (get_or letters (pass - 1) 0))
-written_direction letters count zero h k l = absurd (omega arith)
-written_direction letters count (suc pass) h k l =
-    let n = length-take-le count letters l in
-    let e : suc pass - 1 ≡ pass = omega arith in
-    written_at (take count letters) pass (omega (arith, n)) ∙ ap (λ b. Some (letter_direction b)) (get_or-take count letters pass 0 (omega arith) ∙ ap (λ i. get_or letters i 0) (sym e))
+-- where no byte is wrong, a pass takes the direction of the byte before it
+pub written_direction : (bytes : List ℕ) (pass place byte : ℕ) → (1 ≤ pass) × (place ≡ pass - 1) → place < length bytes → byte ≡ get_or bytes place byte
+    → is_some (first_wrong bytes) ≡ false → direction_at (written bytes) pass ≡ result_ok (byte_direction byte)
+written_direction bytes zero place byte h l e w = absurd (omega arith)
+written_direction bytes (suc k) place byte h l e w =
+    let i : k ≡ place = omega arith in
+    let there : slice_get bytes place ≡ Some byte = slice_get_read bytes _ place byte refl l e in
+    let right : not (letter (get_or bytes place byte)) ≡ false = fails_before_first (λ b. not (letter b)) bytes place byte (grind (arith, nat_tests)) in
+    at_place (written bytes) k ∙ ap (slice_get (written bytes)) i ∙ slice_get-map letter_direction bytes place ∙ ap (option_map letter_direction) there ∙ grind rules

@@ -1,9 +1,10 @@
 -- Plans: the directions of the passes, of a plan that alternates and of a plan written in letters.
-use Rattle.std.specs.Prelude.{ℕ, zero, suc, ◌%◌, Bool, cond, ◌&&◌, ◌||◌, List, [], ◌∷◌, map, length, Some, None, Ok, Err, Option, Result, ◌==◌, nat_le}
+use Rattle.std.specs.Prelude.{ℕ, zero, suc, ◌%◌, Bool, cond, not, ◌&&◌, ◌||◌, List, [], ◌∷◌, map, length, position, Some, None, Ok, Err, Option, Result, ◌==◌, nat_le}
 use Rattle.refusal.specs.declared.Refusal.{Refusal}
 use Rattle.refusal.specs.declared.Refusal.TheVariants.{BadPlan}
 use Rattle.plans.specs.declared.Direction.{Direction}
 use Rattle.plans.specs.declared.Direction.TheVariants.{Left, Right}
+use Rattle.plans.specs.declared.NoDirection.{NoDirection}
 
 -- the direction of a pass, of which the first is 1; there is none at 0 and past the last pass
 unfoldable pub direction_at : List Direction → ℕ → Option Direction
@@ -42,14 +43,17 @@ letter byte = byte == 76 || byte == 82
 abbrev pub letter_direction : ℕ → Direction
 letter_direction byte = cond (byte == 76) Left Right
 
+-- the direction of a byte, or the byte where it is no letter
+abbrev pub byte_direction : ℕ → Result Direction NoDirection
+byte_direction byte = cond (letter byte) (Ok (letter_direction byte)) (Err (record { 0 = byte }))
+
 -- the directions that letters stand for, one for each pass
 abbrev pub written : List ℕ → List Direction
 written bytes = map letter_direction bytes
 
--- the place of the first byte that is no letter, where the first byte has the place given
-unfoldable pub first_wrong : ℕ → List ℕ → Option ℕ
-first_wrong place [] = None
-first_wrong place (byte ∷ bytes) = cond (letter byte) (first_wrong (suc place) bytes) (Some place)
+-- the place of the first byte that is no letter
+abbrev pub first_wrong : List ℕ → Option ℕ
+first_wrong bytes = position (λ byte. not (letter byte)) bytes
 
 -- letters are read, if no byte is wrong
 abbrev pub read : Option ℕ → List ℕ → Result (List Direction) Refusal
@@ -58,4 +62,4 @@ read (Some place) bytes = Err (BadPlan place)
 
 -- the plan that bytes write, or why they write none: their number, and then the first that is no letter
 abbrev pub written_plan : List ℕ → Result (List Direction) Refusal
-written_plan bytes = cond (plan_length (length bytes)) (read (first_wrong 0 bytes) bytes) (Err (BadPlan 0))
+written_plan bytes = cond (plan_length (length bytes)) (read (first_wrong bytes) bytes) (Err (BadPlan 0))

@@ -32,17 +32,14 @@ impl Alternating {
 impl Plan for Alternating {
     ghost directions = { λ p. alternating p.first p.count };
 
-    ghost bounded = { first_of (Prim.search rules, Prim.grind (arith, Self.row.coded.inj)) };
+    ghost bounded = { Prim.search rules };
 
     fn passes(&self) -> u8 {
         self.count
     }
 
     fn direction(&self, pass: u8) -> Option<Direction> {
-        if pass == 0 || pass > self.passes() {
-            return None;
-        }
-        Some(turn(self.first, pass))
+        (1 <= pass && pass <= self.passes()).then(|| turn(self.first, pass))
     }
 }
 

@@ -1,9 +1,12 @@
 // Plans: in which direction each pass walks the derivation tree.
 #![tactic(auto)]
 
-ghost use Rattle.std.specs.Prelude.{◌≡◌, ◌≤◌, List, length};
-ghost use Rattle.plans.specs.Plans.{direction_at, opposite};
+ghost use Rattle.std.specs.Prelude.{◌≡◌, ◌≤◌, ◌++◌, List, length, Some, codes, decimal};
+ghost use Rattle.plans.specs.Plans.{byte_direction, direction_at, opposite};
 ghost use Rattle.plans.specs.declared.Direction.{Direction};
+
+use std::error::Error;
+use std::fmt;
 
 pub mod alternating;
 #[cfg(test)]
@@ -29,6 +32,38 @@ impl Direction {
         }
     }
 }
+
+// A byte that is the letter of no direction.
+#[derive(Clone, Copy, PartialEq, Eq, Debug)]
+pub struct NoDirection(pub u8);
+
+const LEFT: u8 = b'L';
+
+const RIGHT: u8 = b'R';
+
+impl TryFrom<u8> for Direction {
+    type Error = NoDirection;
+
+    ghost try_from_gives = { λ byte r. r ≡ byte_direction byte };
+
+    fn try_from(byte: u8) -> Result<Direction, NoDirection> {
+        match byte {
+            LEFT => Ok(Direction::Left),
+            RIGHT => Ok(Direction::Right),
+            _ => Err(NoDirection(byte)),
+        }
+    }
+}
+
+impl fmt::Display for NoDirection {
+    ghost output = { λ e. Some (codes "no direction has letter " ++ decimal e.0) };
+
+    fn fmt<W: fmt::Write>(&self, f: &mut fmt::Formatter<W>) -> fmt::Result {
+        write!(f, "no direction has letter {}", self.0)
+    }
+}
+
+impl Error for NoDirection {}
 
 pub trait Plan {
     // The directions of the passes, first to last.

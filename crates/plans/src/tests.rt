@@ -1,7 +1,7 @@
 // Both kinds of plan at their edges.
 use super::alternating::Alternating;
 use super::written::Written;
-use super::{Direction, Plan};
+use super::{Direction, NoDirection, Plan};
 use refusal::Refusal;
 use std::test::Fail;
 
@@ -72,4 +72,14 @@ fn wrong_letters(rt: HostRuntime) {
         Written::new(b"LMRQ").err(),
         Some(Refusal::BadPlan { place: 1 })
     );
+}
+
+#[test]
+fn letters(rt: HostRuntime) -> Result<(), Fail> {
+    assert_eq!(rt; Direction::try_from(b'L'), Ok(Direction::Left));
+    assert_eq!(rt; Direction::try_from(b'R'), Ok(Direction::Right));
+    assert_eq!(rt; Direction::try_from(b'l'), Err(NoDirection(108)));
+    let text = NoDirection(108).to_string(rt.alloc())?;
+    assert_eq!(rt; text.as_str(), "no direction has letter 108");
+    Ok(())
 }

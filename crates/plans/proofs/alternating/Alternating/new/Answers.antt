@@ -1,7 +1,7 @@
 -- A new plan has as many directions as its count says.
-use Rattle.std.proofs.Common.{arith}
+use Rattle.std.proofs.Common.{rules}
 use Rattle.plans.proofs.Plans.{length-alternating}
 use Rattle.plans.proofs.alternating.Alternating.new.Goals as goal
 
 pub invariant_of-result : goal.invariant_of-result
-invariant_of-result c = record { bounds = (omega arith, omega arith); counted = length-alternating _ _ }
+invariant_of-result c = search (rules, length-alternating)

@@ -1,13 +1,12 @@
 -- Outside the plan there is no direction; inside, the directions take turns.
-use Rattle.std.proofs.Common.{Some, sym, ap, ◌∙◌, arith}
+use Rattle.std.proofs.Common.{rules}
 use Rattle.plans.proofs.Plans.{alternating_direction, outside}
 use Rattle.plans.proofs.alternating.AlternatingPlan.direction.Goals as goal
-use Rattle.plans.proofs.alternating.AlternatingPlan.direction.Goals.{then-pass-eq0-via-then-pass-eq0, then-pass-eq0-via-else-pass-eq0+then-pass-passes}
-
-pub returns-then-pass-eq0 : goal.returns-then-pass-eq0
-returns-then-pass-eq0 c =
-    sym (outside _ _ (λ h. elim c.then-pass-eq0.branch [ then-pass-eq0-via-then-pass-eq0 w ↦ omega arith | then-pass-eq0-via-else-pass-eq0+then-pass-passes w ↦ omega arith ]))
+use Rattle.plans.proofs.alternating.AlternatingPlan.direction.Goals.{then-pass-ge1, else-pass-ge1}
 
 pub returns : goal.returns
 returns c =
-    ap Some c.turn.ensures ∙ sym (alternating_direction c.args.self.now.first c.args.self.now.count c.args.pass (omega arith) (omega arith))
+    elim c.if-pass-ge1.branch [
+      | then-pass-ge1 w ↦ search (rules, alternating_direction, outside)
+      | else-pass-ge1 w ↦ search (rules, alternating_direction, outside)
+    ]
