@@ -1,2 +1,2 @@
 mod Books
-mod Pages
+mod Digits

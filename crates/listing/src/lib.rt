@@ -19,10 +19,11 @@ pub fn list(loaded: &Result<Book, Refusal>, buffer: &mut [u8]) -> Result<usize, 
     ensures buffer { buffer.new ≡ filled (listing loaded.now) buffer.old }
 {
     let page = page_of(loaded);
-    let needed = page.length;
+    let text = page.text();
+    let needed = text.len();
     if needed > buffer.len() {
         return Err(Refusal::ListingTooLong { needed });
     }
-    buffer[0..needed].copy_from_slice(&page.bytes[0..needed]);
+    buffer[..needed].copy_from_slice(text);
     Ok(needed)
 }

@@ -1,18 +1,19 @@
 // The lines of a listing.
-ghost use Rattle.std.specs.Prelude.{◌≡◌, ◌+◌, ◌≤◌};
+#![tactic(auto, using(crate::proofs::Digits::sizes))]
+
+ghost use Rattle.std.specs.Prelude.{◌≡◌, ◌+◌, ◌≤◌, ◌++◌, length};
 ghost use Rattle.listing.specs.Listing.{attribute_line, book_listing, listing, pass_number, place_number, refusal_listing};
-ghost use Rattle.listing.specs.Pages.{Adds, Holds};
 
 use crate::page::Page;
 use grammar::Book;
 use refusal::{Place, Refusal};
 
-// In the place of a number, says that an attribute has none.
+// In the place of a number, says that an attribute has none: a book keeps a byte for each attribute.
 const NONE: u8 = 255;
 
 // A page with the listing of what loading gave.
 pub(crate) fn page_of(loaded: &Result<Book, Refusal>) -> Page
-    ensures { Holds result (listing loaded.now) }
+    ensures { result ≡ listing loaded.now }
 {
     match loaded {
         Ok(book) => book_page(book),
@@ -21,11 +22,12 @@ pub(crate) fn page_of(loaded: &Result<Book, Refusal>) -> Page
 }
 
 fn book_page(book: &Book) -> Page
-    ensures { Holds result (book_listing book.now) }
+    ensures { result ≡ book_listing book.now }
 {
     let mut page = Page::new();
-    for (i, attribute) in book.vocabulary.attributes.iter().enumerate() {
-        write_attribute(&mut page, i + 1, attribute.symbol, book.numbers[i]);
+    let attributes = book.vocabulary.attributes.iter();
+    for (place, (attribute, number)) in attributes.zip(&book.numbers[..]).enumerate() {
+        write_attribute(&mut page, place + 1, attribute.symbol, *number);
     }
     page.write(b"passes ");
     page.number(book.passes as usize);
@@ -34,9 +36,9 @@ fn book_page(book: &Book) -> Page
 }
 
 fn write_attribute(page: &mut Page, attribute: usize, symbol: u16, number: u8)
-    requires { (attribute ≤ 64) × (page.old.length + 13 ≤ 843) }
-    ensures adds { Adds page.old (attribute_line attribute symbol number) page.new }
-    ensures short { page.new.length ≤ page.old.length + 13 }
+    requires { (attribute ≤ 64) × (length page.old + 13 ≤ 843) }
+    ensures written { page.new ≡ page.old ++ attribute_line attribute symbol number }
+    ensures short { length page.new ≤ length page.old + 13 }
 {
     page.number(attribute);
     page.write(b" ");
@@ -47,8 +49,9 @@ fn write_attribute(page: &mut Page, attribute: usize, symbol: u16, number: u8)
 }
 
 fn write_pass_number(page: &mut Page, number: u8)
-    requires { page.old.length + 3 ≤ 843 }
-    ensures { Adds page.old (pass_number number) page.new }
+    requires { length page.old + 3 ≤ 843 }
+    ensures written { page.new ≡ page.old ++ pass_number number }
+    ensures short { length page.new ≤ length page.old + 3 }
 {
     if number == NONE {
         page.write(b"-");
@@ -58,7 +61,7 @@ fn write_pass_number(page: &mut Page, number: u8)
 }
 
 fn refusal_page(refusal: Refusal) -> Page
-    ensures { Holds result (refusal_listing refusal) }
+    ensures { result ≡ refusal_listing refusal }
 {
     let mut page = Page::new();
     page.write(b"refused ");

@@ -1,40 +1,58 @@
-// A page on which a listing is written.
-ghost use Rattle.std.specs.Prelude.{◌≡◌, ◌+◌, ◌%◌, ◌≤◌, [], length, decimal};
-ghost use Rattle.listing.specs.Pages.{Adds, Holds};
+// A page on which a listing is written from the start.
+ghost use Rattle.std.specs.Prelude.{◌≡◌, ◌+◌, ◌%◌, ◌≤◌, [], ◌++◌, length, decimal};
+
+use std::marker::Model;
 
 // The longest listing: a line of at most 13 bytes for each of 64 attributes, and a last one of 11.
 const ROOM: usize = 843;
 
-// The first bytes are written; the rest is unused.
+// The text written so far. A fixed array, so that a listing needs no heap.
 #[derive(Drop)]
 pub(crate) struct Page {
-    pub(crate) bytes: [u8; ROOM],
-    pub(crate) length: usize,
+    bytes: [u8; ROOM],
+    written: usize,
+}
+
+impl Model for Page {
+    ghost use Rattle.std.specs.Prelude.{ℕ, ◌≤◌, List, take};
+
+    ghost Value = { List ℕ };
+
+    ghost view = { λ p. take p.written p.bytes };
+
+    ghost invariant = { λ p. p.written ≤ 843 };
 }
 
 impl Page {
     pub(crate) fn new() -> Page
-        ensures { Holds result [] }
+        ensures { result ≡ [] }
     {
         Page {
             bytes: [0; ROOM],
-            length: 0,
+            written: 0,
         }
     }
 
-    pub(crate) fn write(&mut self, text: &[u8])
-        requires { self.old.length + length text.now ≤ 843 }
-        ensures { Adds self.old text.now self.new }
+    pub(crate) fn text(&self) -> &[u8]
+        ensures { result.now ≡ self.now }
     {
-        let end = self.length + text.len();
-        self.bytes[self.length..end].copy_from_slice(text);
-        self.length = end;
+        &self.bytes[..self.written]
     }
 
-    // Writes a number in base ten.
+    pub(crate) fn write(&mut self, text: &[u8])
+        requires { length self.old + length text.now ≤ 843 }
+        ensures { self.new ≡ self.old ++ text.now }
+    {
+        let end = self.written + text.len();
+        self.bytes[self.written..end].copy_from_slice(text);
+        self.written = end;
+    }
+
+    // Writes a number in base ten. By hand, since std does not promise that `write!` never answers an error.
+    #[tactic(auto, using(crate::proofs::Digits::front_digits, crate::proofs::Digits::one_digit, std::proofs::lemmas::Fmt::decimal_digit, std::proofs::lemmas::Fmt::decimal_step))]
     pub(crate) fn number(&mut self, n: usize)
-        requires { self.old.length + length (decimal n) ≤ 843 }
-        ensures { Adds self.old (decimal n) self.new }
+        requires { length self.old + length (decimal n) ≤ 843 }
+        ensures { self.new ≡ self.old ++ decimal n }
     {
         if n >= 10 {
             self.number(n / 10);
