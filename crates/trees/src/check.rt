@@ -1,5 +1,5 @@
 // Checks a row of nodes in reading order: a derivation tree, or the first fault that is met.
-ghost use Rattle.std.specs.Prelude.{◌≡◌, ◌<◌, ◌≤◌, length};
+ghost use Rattle.std.specs.Prelude.{◌≡◌, ◌<◌, ◌≤◌, not, length, take, position};
 ghost use Rattle.trees.specs.Checking.{checking, node, subtree};
 ghost use Rattle.grammar.specs.OfBook.{grammar_of};
 ghost use Rattle.trees.specs.Outcomes.{outcome, reaching};
@@ -16,9 +16,6 @@ const MOST_NODES: usize = 4096;
 
 const MOST_LEVELS: u8 = 64;
 
-// Which nodes were reached.
-type Reached = [bool; MOST_NODES];
-
 // Whether the nodes are a derivation tree of the book's grammar; else the first fault in reading order.
 pub fn check_tree(book: &Book, nodes: &[Node]) -> Result<(), Refusal>
     ensures { result ≡ checking (grammar_of book.now) nodes.now }
@@ -28,77 +25,76 @@ pub fn check_tree(book: &Book, nodes: &[Node]) -> Result<(), Refusal>
     }
     let mut reached = [false; MOST_NODES];
     reached[0] = true;
-    check_subtree(
-        book,
-        nodes,
-        &mut reached,
-        0,
-        book.vocabulary.start,
-        MOST_LEVELS,
-    )?;
-    for n in 0..nodes.len() {
-        if !reached[n] {
-            return Err(Refusal::BadLink { node: n as u16 });
-        }
+    let mut row = Row { nodes, reached };
+    row.check_subtree(book, 0, book.vocabulary.start, MOST_LEVELS)?;
+    match row.first_stray() {
+        Some(n) => Err(Refusal::BadLink { node: n as u16 }),
+        None => Ok(()),
     }
-    Ok(())
 }
 
-// Checks the subtree at node `n`, which should be of `symbol` and have at most `room` levels.
-fn check_subtree(
-    book: &Book,
-    nodes: &[Node],
-    reached: &mut Reached,
-    n: u16,
-    symbol: u16,
-    room: u8,
-) -> Result<(), Refusal>
-    requires { (n < length nodes.now) × (length nodes.now ≤ 4096) }
-    ensures { outcome result reached.new ≡ subtree (grammar_of book.now) nodes.now room n symbol reached.old }
-{
-    if room == 0 {
-        return Err(Refusal::TooDeep { node: n });
-    }
-    let node = nodes[n as usize];
-    if node.symbol != symbol || !fitting::fits(book, symbol, node.production) {
-        return Err(Refusal::BadNode { node: n });
-    }
-    let mut holder = n;
-    let mut index = node.first_child;
-    let right = fitting::right_side(book, node.production);
-    for expected in right {
-        if index == 0 {
+// A row of nodes, and which of them were reached; there is a place for each.
+#[derive(Drop)]
+struct Row<'a> {
+    nodes: &'a [Node],
+    reached: [bool; MOST_NODES],
+    ghost placed: { length nodes.now ≤ length reached },
+}
+
+impl Row<'_> {
+    // Checks the subtree at node `n`, which should be of `symbol` and have at most `room` levels.
+    fn check_subtree(&mut self, book: &Book, n: u16, symbol: u16, room: u8) -> Result<(), Refusal>
+        requires { n < length self.old.nodes.now }
+        ensures nodes { self.new.nodes ≡ self.old.nodes }
+        ensures reached { outcome result self.new.reached
+            ≡ subtree (grammar_of book.now) self.old.nodes.now room n symbol self.old.reached }
+    {
+        if room == 0 {
+            return Err(Refusal::TooDeep { node: n });
+        }
+        let node = self.nodes[n as usize];
+        if node.symbol != symbol || !fitting::fits(book, symbol, node.production) {
             return Err(Refusal::BadNode { node: n });
         }
-        reach(nodes, reached, holder, index)?;
-        check_subtree(book, nodes, reached, index, *expected, room - 1)?;
-        holder = index;
-        index = next_brother(nodes, index as usize);
+        let mut holder = n;
+        let mut index = node.first_child;
+        let right = fitting::right_side(book, node.production);
+        for expected in right {
+            if index == 0 {
+                return Err(Refusal::BadNode { node: n });
+            }
+            self.reach(holder, index)?;
+            self.check_subtree(book, index, *expected, room - 1)?;
+            holder = index;
+            index = self.nodes[index as usize].next_brother;
+        }
+        if index == 0 {
+            Ok(())
+        } else {
+            Err(Refusal::BadNode { node: n })
+        }
     }
-    if index == 0 {
+
+    // Reaches the child that an index of the holder names.
+    fn reach(&mut self, holder: u16, index: u16) -> Result<(), Refusal>
+        ensures nodes { self.new.nodes ≡ self.old.nodes }
+        ensures reached { outcome result self.new.reached ≡ reaching self.old.nodes.now holder index self.old.reached }
+    {
+        let child = index as usize;
+        if child >= self.nodes.len() || self.reached[child] {
+            return Err(Refusal::BadLink { node: holder });
+        }
+        self.reached[child] = true;
         Ok(())
-    } else {
-        Err(Refusal::BadNode { node: n })
     }
-}
 
-// Reaches the child that an index of the holder names.
-fn reach(nodes: &[Node], reached: &mut Reached, holder: u16, index: u16) -> Result<(), Refusal>
-    requires { length nodes.now ≤ 4096 }
-    ensures { outcome result reached.new ≡ reaching nodes.now holder index reached.old }
-{
-    let child = index as usize;
-    if child >= nodes.len() || reached[child] {
-        return Err(Refusal::BadLink { node: holder });
+    // The first node that was not reached.
+    fn first_stray(&self) -> Option<usize>
+        ensures { result ≡ position not (take (length self.now.nodes.now) self.now.reached) }
+    {
+        self.reached
+            .iter()
+            .take(self.nodes.len())
+            .position(|reached| !reached)
     }
-    reached[child] = true;
-    Ok(())
-}
-
-// The index of a node's next brother.
-fn next_brother(nodes: &[Node], n: usize) -> u16
-    requires { n < length nodes.now }
-    ensures { result ≡ (node nodes.now n).next_brother }
-{
-    nodes[n].next_brother
 }

@@ -1,5 +1,5 @@
 // Links to nodes: each node is reached once, and any other link is a fault of its holder.
-use super::{MOST_NODES, reach};
+use super::{MOST_NODES, Row};
 use crate::node::Node;
 use refusal::Refusal;
 
@@ -13,20 +13,22 @@ const TERMINAL: Node = Node {
 #[test]
 fn a_node_is_reached_once(rt: HostRuntime) {
     let nodes = [TERMINAL; 3];
-    let mut reached = [false; MOST_NODES];
-    assert_eq!(rt; reach(&nodes, &mut reached, 0, 1), Ok(()));
-    assert_eq!(rt;
-        reach(&nodes, &mut reached, 2, 1),
-        Err(Refusal::BadLink { node: 2 })
-    );
+    let reached = [false; MOST_NODES];
+    let mut row = Row {
+        nodes: &nodes,
+        reached,
+    };
+    assert_eq!(rt; row.reach(0, 1), Ok(()));
+    assert_eq!(rt; row.reach(2, 1), Err(Refusal::BadLink { node: 2 }));
 }
 
 #[test]
 fn a_link_past_the_nodes(rt: HostRuntime) {
     let nodes = [TERMINAL; 3];
-    let mut reached = [false; MOST_NODES];
-    assert_eq!(rt;
-        reach(&nodes, &mut reached, 1, 3),
-        Err(Refusal::BadLink { node: 1 })
-    );
+    let reached = [false; MOST_NODES];
+    let mut row = Row {
+        nodes: &nodes,
+        reached,
+    };
+    assert_eq!(rt; row.reach(1, 3), Err(Refusal::BadLink { node: 1 }));
 }
