@@ -15,23 +15,23 @@ use Rattle.trees.proofs.Marks.{reach, Fresh, apart_from_fresh, fresh_from_apart,
 use Rattle.trees.proofs.Growing.{subtree_grown, children_go}
 
 module _ (g : Grammar) (nodes : List Node) where
-  all_held : (r : Result (List Bool) Refusal) → then_all g nodes r ≡ Ok tt → (s : List Bool) × (r ≡ Ok s) × (all_reached g nodes 0 (length nodes) s ≡ Ok tt)
+  all_held : (r : Result (List Bool) Refusal) → then_all g nodes r ≡ Ok tt → (s : List Bool) × (r ≡ Ok s) × (all_reached 0 (length nodes) s ≡ Ok tt)
   all_held (Ok s) e = (s, refl, e)
   all_held (Err d) e = absurd (not_refused e)
 
-  all_marked : (n count : ℕ) (s : List Bool) → all_reached g nodes n count s ≡ Ok tt → (m : ℕ) → n ≤ m → m < n + count → get_or s m false ≡ true
+  all_marked : (n count : ℕ) (s : List Bool) → all_reached n count s ≡ Ok tt → (m : ℕ) → n ≤ m → m < n + count → get_or s m false ≡ true
   all_marked n zero s e m low high = absurd (omega arith)
   all_marked n (suc count) s e m low high =
       let t = test_held (get_or s n false) _ _ e in
       elim (cases_eq m n) [ inl same ↦ rw same t.0 | inr other ↦ all_marked (suc n) count s t.1 m (omega arith) (omega arith) ]
 
-  none_missing : (n count : ℕ) (s : List Bool) → ((m : ℕ) → n ≤ m → m < n + count → get_or s m false ≡ true) → all_reached g nodes n count s ≡ Ok tt
+  none_missing : (n count : ℕ) (s : List Bool) → ((m : ℕ) → n ≤ m → m < n + count → get_or s m false ≡ true) → all_reached n count s ≡ Ok tt
   none_missing n zero s h = refl
   none_missing n (suc count) s h =
       cond-true (get_or s n false) _ _ (h n (omega arith) (omega arith)) ∙ none_missing (suc n) count s (λ m low high. h m (omega arith) (omega arith))
 
   grown_stands : (s : List Bool) → length nodes ≤ 4096 → subtree g nodes 64 0 g.vocabulary.start (set (replicate 4096 false) 0 true) ≡ Ok s
-      → all_reached g nodes 0 (length nodes) s ≡ Ok tt → (t : Tree) × Stands g nodes t × (tree_depth t ≤ 64)
+      → all_reached 0 (length nodes) s ≡ Ok tt → (t : Tree) × Stands g nodes t × (tree_depth t ≤ 64)
   grown_stands s few e all =
       let blank = replicate 4096 false in
       let w = subtree_grown g nodes few 64 0 g.vocabulary.start (set blank 0 true) s e in

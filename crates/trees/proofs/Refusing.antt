@@ -68,12 +68,12 @@ module _ (g : Grammar) (nodes : List Node) where
   abbrev Missing : ℕ → List Bool → Refusal → Type 0
   Missing end s e = (h : ℕ) × (h < end) × (get_or s h false ≡ false) × (BadLink h ≡ e)
 
-  missing_at : (n count : ℕ) (s : List Bool) (e : Refusal) (b : Bool) → get_or s n false ≡ b → (all_reached g nodes (suc n) count s ≡ Err e → Missing (suc n + count) s e)
-      → cond b (all_reached g nodes (suc n) count s) (Err (BadLink n)) ≡ Err e → Missing (n + suc count) s e
+  missing_at : (n count : ℕ) (s : List Bool) (e : Refusal) (b : Bool) → get_or s n false ≡ b → (all_reached (suc n) count s ≡ Err e → Missing (suc n + count) s e)
+      → cond b (all_reached (suc n) count s) (Err (BadLink n)) ≡ Err e → Missing (n + suc count) s e
   missing_at n count s e true t later k = let m = later k in (m.0, omega (arith, m.1), m.2, m.3)
   missing_at n count s e false t later k = let same : BadLink n ≡ e = cc in (n, omega arith, t, same)
 
-  missing : (n count : ℕ) (s : List Bool) (e : Refusal) → all_reached g nodes n count s ≡ Err e → Missing (n + count) s e
+  missing : (n count : ℕ) (s : List Bool) (e : Refusal) → all_reached n count s ≡ Err e → Missing (n + count) s e
   missing n zero s e h = absurd (not_refused (sym h))
   missing n (suc count) s e h = missing_at n count s e (get_or s n false) refl (missing (suc n) count s e) h
 

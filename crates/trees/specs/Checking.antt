@@ -42,6 +42,11 @@ abbrev pub and_then : Result (List Bool) Refusal → Check → Result (List Bool
 and_then (Ok reached) k = k reached
 and_then (Err e) k = Err e
 
+-- the first of so many nodes, counted on from n, that is not reached is a fault
+abbrev pub all_reached : ℕ → ℕ → List Bool → Result (Unit {0}) Refusal
+all_reached n zero reached = Ok tt
+all_reached n (suc count) reached = cond (slice_index_or reached n false) (all_reached (suc n) count reached) (Err (BadLink n))
+
 module _ (g : Grammar) (nodes : List Node) where
   -- The children of a parent along their chain, from an index that a holder has, each a subtree of its symbol of the right side.
   -- `subtree` checks one by its node and symbol.
@@ -60,11 +65,6 @@ module _ (g : Grammar) (nodes : List Node) where
       cond ((node nodes n).symbol == symbol && fits g symbol (node nodes n).production)
       (children (subtree room) n n (node nodes n).first_child (children_symbols g (node nodes n).production) reached)
       (Err (BadNode n))
-
-  -- the first of so many nodes, counted on from n, that is not reached is a fault
-  abbrev pub all_reached : ℕ → ℕ → List Bool → Result (Unit {0}) Refusal
-  all_reached n zero reached = Ok tt
-  all_reached n (suc count) reached = cond (slice_index_or reached n false) (all_reached (suc n) count reached) (Err (BadLink n))
 
   abbrev pub then_all : Result (List Bool) Refusal → Result (Unit {0}) Refusal
   then_all (Ok reached) = all_reached 0 (length nodes) reached

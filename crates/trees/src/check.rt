@@ -1,6 +1,6 @@
 // Checks a row of nodes in reading order: a derivation tree, or the first fault that is met.
 ghost use Rattle.std.specs.Prelude.{◌≡◌, ◌<◌, ◌≤◌, not, length, take, position};
-ghost use Rattle.trees.specs.Checking.{checking, node, subtree};
+ghost use Rattle.trees.specs.Checking.{all_reached, checking, subtree};
 ghost use Rattle.grammar.specs.OfBook.{grammar_of};
 ghost use Rattle.trees.specs.Outcomes.{outcome, reaching};
 
@@ -27,10 +27,7 @@ pub fn check_tree(book: &Book, nodes: &[Node]) -> Result<(), Refusal>
     reached[0] = true;
     let mut row = Row { nodes, reached };
     row.check_subtree(book, 0, book.vocabulary.start, MOST_LEVELS)?;
-    match row.first_stray() {
-        Some(n) => Err(Refusal::BadLink { node: n as u16 }),
-        None => Ok(()),
-    }
+    row.check_reached()
 }
 
 // A row of nodes, and which of them were reached; there is a place for each.
@@ -86,6 +83,16 @@ impl Row<'_> {
         }
         self.reached[child] = true;
         Ok(())
+    }
+
+    // Whether every node was reached; else the first that was not is a fault.
+    fn check_reached(&self) -> Result<(), Refusal>
+        ensures { result ≡ all_reached 0 (length self.now.nodes.now) self.now.reached }
+    {
+        match self.first_stray() {
+            Some(n) => Err(Refusal::BadLink { node: n as u16 }),
+            None => Ok(()),
+        }
     }
 
     // The first node that was not reached.
