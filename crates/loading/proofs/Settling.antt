@@ -1,17 +1,22 @@
--- A test of every number below a bound, as a loop makes it.
-use Rattle.std.proofs.Common.{◌≡◌, ℕ, zero, suc, ◌+◌, ◌<◌, Bool, true, false, sym, subst, inl, inr, eq-or-lt_of_le, add-one, arith}
-use Rattle.std.proofs.lemmas.Bool.{and_from, and_left, and_right}
+-- A test of each number of a range, as definitions make it.
+use Rattle.std.proofs.Common.{◌≡◌, ℕ, zero, suc, ◌+◌, Bool, true, false, ◌&&◌, refl, ap, ◌∙◌, arith, add-zero}
+use Rattle.std.specs.List.{list_all, range_with_len}
 use Rattle.grammar.specs.Grammar.{every_below}
 
-pub every_fails : (n : ℕ) (test : ℕ → Bool) (k : ℕ) → k < n → false ≡ test k → false ≡ every_below n test
-every_fails zero test k l e = absurd (omega arith)
-every_fails (suc n) test k l e = elim (eq-or-lt_of_le {n = k} {m = n} (omega arith)) [
-  | inl h ↦ sym (and_left _ _ (subst (λ m. test m ≡ false) h (sym e)))
-  | inr h ↦ sym (and_right (test n) _ (sym (every_fails n test k h e)))
-]
+first_and_last : (a b c : Bool) → (a && (b && c)) ≡ (b && (a && c))
+first_and_last true b c = refl
+first_and_last false true c = refl
+first_and_last false false c = refl
 
-pub every_more : (n : ℕ) (test : ℕ → Bool) → every_below n test ≡ true → true ≡ test n → every_below (n + 1) test ≡ true
-every_more n test h e = rw add-one (and_from _ _ (sym e) h)
+last_apart : (test : ℕ → Bool) (a n : ℕ) → list_all test (range_with_len a (suc n)) ≡ (test (a + n) && list_all test (range_with_len a n))
+last_apart test a zero = rw add-zero refl
+last_apart test a (suc n) =
+    let sum : a + 1 + n ≡ a + suc n = omega arith in
+    ap (λ b. test a && b) (last_apart test (a + 1) n ∙ ap (λ m. test m && list_all test (range_with_len (a + 1) n)) sum)
+    ∙ first_and_last (test a) (test (a + suc n)) _
 
-pub every_all : (n m : ℕ) (test : ℕ → Bool) → every_below n test ≡ true → n ≡ m → true ≡ every_below m test
-every_all n m test h e = sym (subst (λ k. every_below k test ≡ true) e h)
+-- a test of n numbers from a on, by their places
+pub every_of_range : (test of : ℕ → Bool) (a n : ℕ) → ((k : ℕ) → test (a + k) ≡ of k) → list_all test (range_with_len a n) ≡ every_below n of
+every_of_range test of a zero same = refl
+every_of_range test of a (suc n) same =
+    last_apart test a n ∙ ap (λ b. b && list_all test (range_with_len a n)) (same n) ∙ ap (λ b. of n && b) (every_of_range test of a n same)

@@ -1,11 +1,10 @@
--- What is asked of the records of productions, rules and arguments.
-use Rattle.std.specs.Prelude.{ℕ, Bool, cond, not, ◌&&◌, List, Some, None, Ok, Err, Option, Result, ◌==◌, slice_index}
+-- What is asked of the records of productions and rules.
+use Rattle.std.specs.Prelude.{ℕ, Bool, cond, not, ◌&&◌, List, Ok, Err, Result, ◌==◌}
 use Rattle.refusal.specs.declared.Refusal.{Refusal}
 use Rattle.refusal.specs.declared.Refusal.TheVariants.{NoSuch, BadRule}
-use Rattle.grammar.specs.declared.vocabulary.AttributeKind.{AttributeKind}
 use Rattle.grammar.specs.declared.production.Occurrence.{Occurrence}
-use Rattle.grammar.specs.Grammar.{Vocabulary, attribute, is_symbol, occurs, defined}
-use Rattle.grammar.specs.Rules.{slot}
+use Rattle.grammar.specs.Grammar.{Vocabulary, is_symbol, occurs, defined}
+use Rattle.grammar.specs.Rules.{has_rule}
 use Rattle.tables.specs.declared.record.Record.{Record}
 use Rattle.tables.specs.Reading.{occurrence}
 
@@ -13,13 +12,9 @@ use Rattle.tables.specs.Reading.{occurrence}
 abbrev pub inside : Vocabulary → ℕ → Bool
 inside v s = is_symbol v s && not (s == v.start)
 
--- the kind of an occurrence's attribute, where there is such an occurrence
-abbrev pub kind_at : Vocabulary → ℕ → List ℕ → Occurrence → Option AttributeKind
-kind_at v left right o = cond (occurs v left right o) (Some (attribute v o.attribute).kind) None
-
--- the target of a rule's record: a defined occurrence whose slot is empty
-abbrev pub target_at : Vocabulary → ℕ → List ℕ → List ℕ → Record → Result Occurrence Refusal
-target_at v left right slots r =
+-- the target of a rule's record: a defined occurrence that no rule has as its target yet
+abbrev pub target_at : Vocabulary → ℕ → List ℕ → List Occurrence → Record → Result Occurrence Refusal
+target_at v left right targets r =
     cond (occurs v left right (occurrence r))
-    (cond (defined v (occurrence r) && slice_index slots (slot (occurrence r)) == 0) (Ok (occurrence r)) (Err (BadRule r.place)))
+    (cond (defined v (occurrence r) && not (has_rule targets (occurrence r))) (Ok (occurrence r)) (Err (BadRule r.place)))
     (Err (NoSuch r.place))

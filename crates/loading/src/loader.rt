@@ -4,7 +4,6 @@ ghost use Rattle.grammar.specs.Books.{unnumbered as unnumbered_of};
 ghost use Rattle.tables.specs.Reading.{reading};
 ghost use Rattle.loading.specs.Loading.{Loads, Judges};
 
-use crate::checks::is_inner;
 use crate::productions::read_productions;
 use crate::symbols::read_vocabulary;
 use grammar::board::BOARD_PLACES;
@@ -14,8 +13,8 @@ use kinds::ValueKind;
 use plans::Direction;
 use refusal::Refusal;
 use std::alloc::Global;
+use tables::Table;
 use tables::table::MOST_RECORDS;
-use tables::{Table, is_sized};
 
 // The book that a table holds, with the operations that the value kind admits, or the first
 // fault that is met in reading it. No attribute has a number yet but the given ones.
@@ -25,14 +24,11 @@ pub fn load<K: ValueKind>(heap: Global, bytes: &[u8], kind: &K) -> Result<Book, 
     ensures numbers { IfOk result (λ b. b.numbers ≡ unnumbered_of b.vocabulary.attributes.items) }
     ensures passes { IfOk result (λ b. (b.passes ≡ 0) × (b.planned ≡ 0)) }
 {
-    if !is_sized(bytes) {
-        return Err(Refusal::TableSize);
-    }
-    let table = Table { bytes };
+    let table = Table::new(bytes)?;
     let head = table.head();
     let mut reached = [false; MOST_RECORDS];
     let vocabulary = read_vocabulary(heap, &table, &mut reached, head.w2, head.next)?;
-    if !is_inner(&vocabulary, head.w2) {
+    if !vocabulary.is_inner(head.w2) {
         return Err(Refusal::NoSuch { record: 0 });
     }
     let mut arcs = [0u8; BOARD_PLACES];

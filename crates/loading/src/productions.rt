@@ -5,21 +5,29 @@ ghost use Rattle.grammar.specs.Arcs.{with_productions};
 ghost use Rattle.grammar.specs.Grammar.{vocabulary_view, production_view, is_inner};
 ghost use Rattle.tables.specs.Chains.{along};
 ghost use Rattle.tables.specs.Reading.{Gives, position as position_read, productions as productions_read};
+ghost use Rattle.loading.specs.Checks.{inside};
 
-use crate::additions::{add_argument, add_production, add_rule};
-use crate::checks::{check_target, is_inner, is_inside};
-use grammar::production::SLOTS;
+use crate::rules::Rules;
+use crate::sides::Sides;
 use grammar::{Board, Production, Vocabulary};
 use kinds::ValueKind;
 use refusal::Refusal;
 use std::alloc::Global;
-use tables::{Reached, Record, Table};
+use tables::record::HEAD;
+use tables::{Link, Reached, Record, Table};
 
 const MOST_PRODUCTIONS: usize = 128;
 
 const MOST_POSITIONS: usize = 8;
 
 const MOST_ARGUMENTS: usize = 8;
+
+// Whether a number is that of a symbol that may stand on a right side.
+fn is_inside(vocabulary: &Vocabulary, number: u16) -> bool
+    ensures { result ≡ inside (vocabulary_view vocabulary.now) number }
+{
+    vocabulary.symbol(number).is_some() && number != vocabulary.start
+}
 
 // The right side of the production at the record `at`, whose left side is checked first.
 fn read_right_side(
@@ -32,13 +40,12 @@ fn read_right_side(
     ensures few { IfOk result (λ right. vec_len right ≤ 8) }
     ensures value { (admitted : ℕ → ℕ → ℕ → Bool) → Gives vec_items result reached.new (if is_inner (vocabulary_view vocabulary.now) at.w1 then along table.now.bytes.now (position_read table.now.bytes.now (vocabulary_view vocabulary.now) admitted) 8 [] at.place at.w2 reached.old else Err (NoSuch at.place)) }
 {
-    if !is_inner(vocabulary, at.w1) {
+    if !vocabulary.is_inner(at.w1) {
         return Err(Refusal::NoSuch { record: at.place });
     }
     let mut right = Vec::new(heap);
-    let mut holder = at.place;
-    let mut index = at.w2;
-    'positions: while let Some(found) = table.follow(reached, holder, index)? {
+    let mut link = at.link(at.w2);
+    'positions: while let Some(found) = table.follow(reached, link)? {
         if right.len() == MOST_POSITIONS {
             return Err(Refusal::CountPassed {
                 record: found.place,
@@ -50,8 +57,7 @@ fn read_right_side(
             });
         }
         right.push(found.w1)?;
-        holder = found.place;
-        index = found.next;
+        link = found.next_link();
     }
     Ok(right)
 }
@@ -71,10 +77,12 @@ pub(crate) fn read_productions<K: ValueKind>(
     ensures board { IfOk result (λ ps. board.new ≡ with_productions (vocabulary_view vocabulary.now) (map production_view ps.items) board.old) }
 {
     let mut productions = Vec::new(heap);
-    let mut holder = 0;
-    let mut index = first;
+    let mut link = Link {
+        holder: HEAD,
+        index: first,
+    };
     let fault = 'productions: loop {
-        let found = match table.follow(reached, holder, index) {
+        let found = match table.follow(reached, link) {
             Ok(found) => found,
             Err(fault) => break 'productions Some(fault),
         };
@@ -90,33 +98,29 @@ pub(crate) fn read_productions<K: ValueKind>(
             Ok(right) => right,
             Err(fault) => break 'productions Some(fault),
         };
-        let mut rules = Vec::new(heap);
-        let mut slots = [0; SLOTS];
-        let mut rule_holder = production.place;
-        let mut rule_index = production.w3;
+        let sides = Sides {
+            vocabulary,
+            left: production.w1,
+            right,
+        };
+        let mut rules = Rules::new(heap);
+        let mut rule_link = production.link(production.w3);
         'rules: loop {
-            let found = match table.follow(reached, rule_holder, rule_index) {
+            let found = match table.follow(reached, rule_link) {
                 Ok(found) => found,
                 Err(fault) => break 'productions Some(fault),
             };
             let Some(rule) = found else {
                 break 'rules;
             };
-            let target = match check_target(
-                vocabulary,
-                production.w1,
-                right.as_slice(),
-                &slots,
-                rule,
-            ) {
+            let target = match sides.target(&rules, rule) {
                 Ok(target) => target,
                 Err(fault) => break 'productions Some(fault),
             };
             let mut arguments = Vec::new(heap);
-            let mut argument_holder = rule.place;
-            let mut argument_index = rule.w3;
+            let mut argument_link = rule.link(rule.w3);
             'arguments: loop {
-                let found = match table.follow(reached, argument_holder, argument_index) {
+                let found = match table.follow(reached, argument_link) {
                     Ok(found) => found,
                     Err(fault) => break 'productions Some(fault),
                 };
@@ -128,40 +132,20 @@ pub(crate) fn read_productions<K: ValueKind>(
                         record: argument.place,
                     });
                 }
-                let added = add_argument(
-                    vocabulary,
-                    production.w1,
-                    right.as_slice(),
-                    target,
-                    &mut arguments,
-                    board,
-                    argument,
-                );
-                if let Err(fault) = added {
+                if let Err(fault) = sides.add_argument(target, &mut arguments, board, argument) {
                     break 'productions Some(fault);
                 }
-                argument_holder = argument.place;
-                argument_index = argument.next;
+                argument_link = argument.next_link();
             }
-            if let Err(fault) = add_rule(kind, &mut rules, &mut slots, target, arguments, rule) {
+            if let Err(fault) = rules.add(kind, target, arguments, rule) {
                 break 'productions Some(fault);
             }
-            rule_holder = rule.place;
-            rule_index = rule.next;
+            rule_link = rule.next_link();
         }
-        let added = add_production(
-            vocabulary,
-            &mut productions,
-            right,
-            rules,
-            slots,
-            production,
-        );
-        if let Err(fault) = added {
+        if let Err(fault) = sides.finish(rules, &mut productions, production) {
             break 'productions Some(fault);
         }
-        holder = production.place;
-        index = production.next;
+        link = production.next_link();
     };
     match fault {
         Some(fault) => Err(fault),

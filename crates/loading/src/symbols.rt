@@ -7,7 +7,8 @@ ghost use Rattle.loading.specs.Views.{gathered};
 use grammar::{Attribute, AttributeKind, Symbol, SymbolKind, Vocabulary};
 use refusal::Refusal;
 use std::alloc::Global;
-use tables::{Reached, Record, Table};
+use tables::record::HEAD;
+use tables::{Link, Reached, Record, Table};
 
 const MOST_SYMBOLS: usize = 48;
 
@@ -53,9 +54,8 @@ fn read_attributes(
     ensures value { Gives (λ _. attributes.new.items) result reached.new (attributes_read table.now.bytes.now number symbol starts attributes.old.items at reached.old) }
 {
     let before = attributes.len();
-    let mut holder = at.place;
-    let mut index = at.w2;
-    'attributes: while let Some(found) = table.follow(reached, holder, index)? {
+    let mut link = at.link(at.w2);
+    'attributes: while let Some(found) = table.follow(reached, link)? {
         if attributes.len() - before == MOST_OF_ONE_SYMBOL || attributes.len() == MOST_ATTRIBUTES {
             return Err(Refusal::CountPassed {
                 record: found.place,
@@ -71,8 +71,7 @@ fn read_attributes(
             kind,
         };
         attributes.push(attribute)?;
-        holder = found.place;
-        index = found.next;
+        link = found.next_link();
     }
     Ok(())
 }
@@ -91,9 +90,11 @@ pub(crate) fn read_vocabulary(
 {
     let mut symbols = Vec::new(heap);
     let mut attributes = Vec::new(heap);
-    let mut holder = 0;
-    let mut index = first;
-    'symbols: while let Some(found) = table.follow(reached, holder, index)? {
+    let mut link = Link {
+        holder: HEAD,
+        index: first,
+    };
+    'symbols: while let Some(found) = table.follow(reached, link)? {
         if symbols.len() == MOST_SYMBOLS {
             return Err(Refusal::CountPassed {
                 record: found.place,
@@ -117,8 +118,7 @@ pub(crate) fn read_vocabulary(
         )?;
         let count = attributes.len() as u16 + 1 - first;
         symbols.push(Symbol { kind, first, count })?;
-        holder = found.place;
-        index = found.next;
+        link = found.next_link();
     }
     Ok(Vocabulary {
         start,

@@ -1,4 +1,15 @@
-// The records of a table.
+// The records of a table, and the links between them.
+ghost use Rattle.std.specs.Prelude.{◌≡◌};
+
+// The place of the head.
+pub const HEAD: u16 = 0;
+
+// Where a chain goes on: a record that holds an index, and that index.
+#[derive(Clone, Copy)]
+pub struct Link {
+    pub holder: u16,
+    pub index: u16,
+}
 
 // A record by its place in the table. Its word 0 names the next record of its chain; what the
 // others mean depends on what the record stands for:
@@ -18,4 +29,23 @@ pub struct Record {
     pub w3: u16,
     pub w4: u16,
     pub w5: u16,
+}
+
+impl Record {
+    // The link to the next record of its chain.
+    pub fn next_link(self) -> Link
+        ensures { result ≡ record { holder = self.place; index = self.next } }
+    {
+        self.link(self.next)
+    }
+
+    // The link that one of the record's words makes.
+    pub fn link(self, word: u16) -> Link
+        ensures { result ≡ record { holder = self.place; index = word } }
+    {
+        Link {
+            holder: self.place,
+            index: word,
+        }
+    }
 }

@@ -1,15 +1,15 @@
 // A table's bytes, and the records of it that were reached so far.
-ghost use Rattle.std.specs.Prelude.{◌≡◌, ℕ, ◌+◌, ◌*◌, ◌%◌, ◌<◌, ◌≤◌, T, length, IfOk};
+ghost use Rattle.std.specs.Prelude.{◌≡◌, ◌+◌, ◌*◌, ◌<◌, ◌≤◌, true, false, length, IfOk, IfErr};
 ghost use Rattle.tables.specs.Chains.{word, record_at, follow, yields, free, one, sized, Sized};
 
-use crate::record::Record;
+use crate::record::{HEAD, Link, Record};
 use refusal::Refusal;
 
 pub const MOST_RECORDS: usize = 4096;
 
 const RECORD_BYTES: usize = 12;
 
-// Which records were reached.
+// Which records were reached. Not in the table: what changes it would have to say that the bytes stay.
 pub type Reached = [bool; MOST_RECORDS];
 
 // The bytes of 1 to 4096 records, none of them cut off.
@@ -24,9 +24,8 @@ fn word_at(bytes: &[u8], place: usize, k: usize) -> u16
     requires { 12 * place + 2 * k + 1 < length bytes.now }
     ensures { result ≡ word bytes.now place k }
 {
-    let low = bytes[RECORD_BYTES * place + 2 * k];
-    let high = bytes[RECORD_BYTES * place + 2 * k + 1];
-    u16::from(low) + 256 * u16::from(high)
+    let at = RECORD_BYTES * place + 2 * k;
+    u16::from_le_bytes([bytes[at], bytes[at + 1]])
 }
 
 fn record_at(bytes: &[u8], place: u16) -> Record
@@ -45,34 +44,35 @@ fn record_at(bytes: &[u8], place: u16) -> Record
     }
 }
 
-// Whether the bytes are 1 to 4096 records.
-pub fn is_sized(bytes: &[u8]) -> bool
-    ensures value { result ≡ sized bytes.now }
-    ensures cases { T result → Sized bytes.now }
-{
-    bytes.len() % RECORD_BYTES == 0
-        && !bytes.is_empty()
-        && bytes.len() <= RECORD_BYTES * MOST_RECORDS
-}
+impl<'a> Table<'a> {
+    // The table, where the bytes are 1 to 4096 records.
+    pub fn new(bytes: &'a [u8]) -> Result<Table<'a>, Refusal>
+        ensures ok { IfOk result (λ t. (t.bytes.now ≡ bytes.now) × (sized bytes.now ≡ true)) }
+        ensures err { IfErr result (λ e. (e ≡ Refusal.TableSize) × (sized bytes.now ≡ false)) }
+    {
+        if bytes.len() % RECORD_BYTES == 0
+            && !bytes.is_empty()
+            && bytes.len() <= RECORD_BYTES * MOST_RECORDS
+        {
+            Ok(Table { bytes })
+        } else {
+            Err(Refusal::TableSize)
+        }
+    }
 
-impl Table<'_> {
     // The head of the table, its record 0.
     pub fn head(&self) -> Record
         ensures { result ≡ record_at self.now.bytes.now 0 }
     {
-        record_at(self.bytes, 0)
+        record_at(self.bytes, HEAD)
     }
 
-    // The record that an index of `holder` names, or none where the index ends the chain.
-    pub fn follow(
-        &self,
-        reached: &mut Reached,
-        holder: u16,
-        index: u16,
-    ) -> Result<Option<Record>, Refusal>
-        ensures value { yields result reached.new ≡ follow self.now.bytes.now holder index reached.old }
+    // The record that the link's index names, or none where the index ends the chain.
+    pub fn follow(&self, reached: &mut Reached, link: Link) -> Result<Option<Record>, Refusal>
+        ensures value { yields result reached.new ≡ follow self.now.bytes.now link.holder link.index reached.old }
         ensures left { IfOk result (λ o. free reached.new + one o ≡ free reached.old) }
     {
+        let Link { holder, index } = link;
         if index == 0 {
             return Ok(None);
         }

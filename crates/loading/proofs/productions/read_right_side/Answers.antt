@@ -8,7 +8,7 @@ use Rattle.loading.proofs.productions.read_right_side.Goals as goal
 pub returns-in_err-found : goal.returns-in_err-found
 returns-in_err-found c =
     let p = err_from_is_err_and c.from_residual.result c.from_residual.ensures.1 in
-    rw (p.1, p.2) (record { few = tt; value = λ admitted. inr (cond-true _ _ _ (sym c.if-not-is_inner.ensures) ∙ halted _ _ _ _ _ _ _ _ _ (c.positions.invariant.1 admitted) _ c.in_err-found.ensures.value) })
+    rw (p.1, p.2) (record { few = tt; value = λ admitted. inr (cond-true _ _ _ (sym c.if-not-is_inner.ensures) ∙ halted (c.positions.invariant.1 admitted) c.in_err-found.ensures.value) })
 
 pub returns-then-len-eq-MOST_POSITIONS : goal.returns-then-len-eq-MOST_POSITIONS
 returns-then-len-eq-MOST_POSITIONS c =
@@ -16,7 +16,7 @@ returns-then-len-eq-MOST_POSITIONS c =
     record {
       few = tt;
       value = λ admitted. inr (cond-true _ _ _ (sym c.if-not-is_inner.ensures)
-          ∙ passed _ _ _ _ _ _ _ _ _ (c.positions.invariant.1 admitted) _ c.in-Some.found c.follow.new.reached c.in_ok-found.ensures.value c.in-Some.is full);
+          ∙ passed (c.positions.invariant.1 admitted) c.in_ok-found.ensures.value c.in-Some.is full);
     }
 
 pub returns-then-not-is_inside : goal.returns-then-not-is_inside
@@ -25,7 +25,7 @@ returns-then-not-is_inside c =
     record {
       few = tt;
       value = λ admitted. inr (cond-true _ _ _ (sym c.if-not-is_inner.ensures)
-          ∙ stopped _ _ _ _ _ _ _ _ _ (c.positions.invariant.1 admitted) _ c.in-Some.found c.follow.new.reached _ c.in_ok-found.ensures.value c.in-Some.is less
+          ∙ stopped (c.positions.invariant.1 admitted) c.in_ok-found.ensures.value c.in-Some.is less
           (cond-false _ _ _ (sym c.if-not-is_inside.ensures)));
     }
 
@@ -37,12 +37,12 @@ positions-preserved c =
     let one : vec_len c.push.new.self ≡ vec_len c.positions.right + 1 = chosen _ _ _ _ c.push.ensures.len ok in (
       omega arith,
       λ admitted.
-          rw pushed (more _ _ _ _ _ _ _ _ _ (c.positions.invariant.1 admitted) _ c.in-Some.found c.follow.new.reached _ _ _ c.in_ok-found.ensures.value c.in-Some.is less
-          (cond-true _ _ _ (sym c.if-not-is_inside.ensures)) one),
+          rw pushed (more (c.positions.invariant.1 admitted) c.in_ok-found.ensures.value c.in-Some.is less
+          (cond-true _ _ _ (sym c.if-not-is_inside.ensures)) one c.next_link-link.ensures),
     )
 
 pub returns : goal.returns
 returns c = record {
   few = c.positions.invariant.0;
-  value = λ admitted. cond-true _ _ _ (sym c.if-not-is_inner.ensures) ∙ ended _ _ _ _ _ _ _ _ _ (c.positions.invariant.1 admitted) _ c.follow.new.reached c.in_ok-found.ensures.value c.in_default.is;
+  value = λ admitted. cond-true _ _ _ (sym c.if-not-is_inner.ensures) ∙ ended (c.positions.invariant.1 admitted) c.in_ok-found.ensures.value c.in_default.is;
 }

@@ -9,8 +9,8 @@ abbrev pub invariant-positions : goal.invariant-positions
 invariant-positions l =
     (vec_len l.right ≤ 8)
     × ((admitted : ℕ → ℕ → ℕ → Bool)
-    → Left l.table.bytes.now (position l.table.bytes.now (vocabulary_view l.vocabulary) admitted) 8 (vec_len l.right) (vec_items l.right) l.holder l.index l.reached
-    (along l.table.bytes.now (position l.table.bytes.now (vocabulary_view l.vocabulary) admitted) 8 [] l.initial.holder l.initial.index l.initial.reached))
+    → Left l.table.bytes.now (position l.table.bytes.now (vocabulary_view l.vocabulary) admitted) 8 (vec_len l.right) (vec_items l.right) l.link l.reached
+    (along l.table.bytes.now (position l.table.bytes.now (vocabulary_view l.vocabulary) admitted) 8 [] l.fn.at.place l.fn.at.w2 l.initial.reached))
 
 abbrev pub decreases-positions : goal.decreases-positions
 decreases-positions l = 8 - vec_len l.right

@@ -9,7 +9,7 @@ use Rattle.loading.proofs.symbols.read_attributes.Goals.{then-len-before-eq-MOST
 pub returns-in_err-found : goal.returns-in_err-found
 returns-in_err-found c =
     let p = err_from_is_err_and c.from_residual.result c.from_residual.ensures.1 in
-    rw (p.1, p.2) (record { few = tt; more = tt; value = inr (halted _ _ _ _ _ _ _ _ _ c.attributes.invariant.3 _ c.in_err-found.ensures.value) })
+    rw (p.1, p.2) (record { few = tt; more = tt; value = inr (halted c.attributes.invariant.3 c.in_err-found.ensures.value) })
 
 pub returns-then-len-before-eq-MOST_OF_ONE_SYMBOL : goal.returns-then-len-before-eq-MOST_OF_ONE_SYMBOL
 returns-then-len-before-eq-MOST_OF_ONE_SYMBOL c =
@@ -19,10 +19,10 @@ returns-then-len-before-eq-MOST_OF_ONE_SYMBOL c =
       more = tt;
       value = elim c.then-len-before-eq-MOST_OF_ONE_SYMBOL.branch [
         | then-len-before-eq-MOST_OF_ONE_SYMBOL-via-then-len-before-eq-MOST_OF_ONE_SYMBOL w ↦
-            inr (passed _ _ _ _ _ _ _ _ _ c.attributes.invariant.3 _ c.in-Some.found c.follow.new.reached c.in_ok-found.ensures.value c.in-Some.is (omega arith))
+            inr (passed c.attributes.invariant.3 c.in_ok-found.ensures.value c.in-Some.is (omega arith))
         | then-len-before-eq-MOST_OF_ONE_SYMBOL-via-else-len-before-eq-MOST_OF_ONE_SYMBOL+then-len-eq-MOST_ATTRIBUTES w ↦
             let full : 64 ≤ length (vec_items c.attributes.attributes) = omega arith in
-            inr (stopped _ _ _ _ _ _ _ _ _ c.attributes.invariant.3 _ c.in-Some.found c.follow.new.reached _ c.in_ok-found.ensures.value c.in-Some.is (omega arith)
+            inr (stopped c.attributes.invariant.3 c.in_ok-found.ensures.value c.in-Some.is (omega arith)
             (attribute_passed c.args.table.now.bytes.now c.args.number c.args.symbol c.args.starts (vec_items c.attributes.attributes) c.in-Some.found c.follow.new.reached full))
       ];
     }
@@ -34,7 +34,7 @@ returns-in_default-attribute_kind c =
     record {
       few = tt;
       more = tt;
-      value = inr (stopped _ _ _ _ _ _ _ _ _ c.attributes.invariant.3 _ c.in-Some.found c.follow.new.reached _ c.in_ok-found.ensures.value c.in-Some.is (omega arith)
+      value = inr (stopped c.attributes.invariant.3 c.in_ok-found.ensures.value c.in-Some.is (omega arith)
           (attribute_bad c.args.table.now.bytes.now c.args.number c.args.symbol c.args.starts (vec_items c.attributes.attributes) c.in-Some.found c.follow.new.reached less
           c.in_default-attribute_kind.ensures));
     }
@@ -49,14 +49,14 @@ attributes-preserved c =
       omega arith,
       omega arith,
       omega arith,
-      rw pushed (more _ _ _ _ _ _ _ _ _ c.attributes.invariant.3 _ c.in-Some.found c.follow.new.reached _ _ _ c.in_ok-found.ensures.value c.in-Some.is (omega arith)
+      rw pushed (more c.attributes.invariant.3 c.in_ok-found.ensures.value c.in-Some.is (omega arith)
           (attribute_more c.args.table.now.bytes.now c.args.number c.args.symbol c.args.starts (vec_items c.attributes.attributes) c.in-Some.found c.follow.new.reached less
-          c.in-Some-attribute_kind.kind c.in-Some-attribute_kind.ensures) (omega arith)),
+          c.in-Some-attribute_kind.kind c.in-Some-attribute_kind.ensures) (omega arith) c.next_link-link.ensures),
     )
 
 pub returns : goal.returns
 returns c = record {
   few = c.attributes.invariant.0;
   more = omega arith;
-  value = ended _ _ _ _ _ _ _ _ _ c.attributes.invariant.3 _ c.follow.new.reached c.in_ok-found.ensures.value c.in_default.is;
+  value = ended c.attributes.invariant.3 c.in_ok-found.ensures.value c.in_default.is;
 }

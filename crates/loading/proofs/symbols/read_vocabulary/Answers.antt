@@ -8,18 +8,18 @@ use Rattle.loading.proofs.symbols.read_vocabulary.Goals as goal
 pub returns-in_err-found : goal.returns-in_err-found
 returns-in_err-found c =
     let p = err_from_is_err_and c.from_residual.result c.from_residual.ensures.1 in
-    rw (p.1, p.2) (record { start = tt; few = tt; value = inr (halted _ _ _ _ _ _ _ _ _ c.symbols.invariant.2 _ c.in_err-found.ensures.value) })
+    rw (p.1, p.2) (record { start = tt; few = tt; value = inr (halted c.symbols.invariant.2 c.in_err-found.ensures.value) })
 
 pub returns-then-len-eq-MOST_SYMBOLS : goal.returns-then-len-eq-MOST_SYMBOLS
 returns-then-len-eq-MOST_SYMBOLS c =
-    record { start = tt; few = tt; value = inr (passed _ _ _ _ _ _ _ _ _ c.symbols.invariant.2 _ c.in-Some.found c.follow.new.reached c.in_ok-found.ensures.value c.in-Some.is (omega arith)) }
+    record { start = tt; few = tt; value = inr (passed c.symbols.invariant.2 c.in_ok-found.ensures.value c.in-Some.is (omega arith)) }
 
 pub returns-in_default-symbol_kind : goal.returns-in_default-symbol_kind
 returns-in_default-symbol_kind c =
     record {
       start = tt;
       few = tt;
-      value = inr (stopped _ _ _ _ _ _ _ _ _ c.symbols.invariant.2 _ c.in-Some.found c.follow.new.reached _ c.in_ok-found.ensures.value c.in-Some.is (omega arith)
+      value = inr (stopped c.symbols.invariant.2 c.in_ok-found.ensures.value c.in-Some.is (omega arith)
           (symbol_bad c.args.table.now.bytes.now c.args.start _ c.in-Some.found c.follow.new.reached c.in_default-symbol_kind.ensures));
     }
 
@@ -32,7 +32,7 @@ returns-in_err-read_attributes c =
       few = tt;
       value = elim c.in_err-read_attributes.ensures.value [
         | inl h ↦ inl h
-        | inr h ↦ inr (stopped _ _ _ _ _ _ _ _ _ c.symbols.invariant.2 _ c.in-Some.found c.follow.new.reached _ c.in_ok-found.ensures.value c.in-Some.is (omega arith)
+        | inr h ↦ inr (stopped c.symbols.invariant.2 c.in_ok-found.ensures.value c.in-Some.is (omega arith)
             (symbol_refused c.args.table.now.bytes.now c.args.start _ c.in-Some.found c.follow.new.reached
             c.in-Some-symbol_kind.kind (c.len-in-Some.result + 1) _ c.in-Some-symbol_kind.ensures number refl _ h))
       ];
@@ -49,14 +49,14 @@ symbols-preserved c =
     let pushed = chosen _ _ _ _ c.push.ensures.items ok ∙ same_symbol (vec_items c.symbols.symbols) c.in-Some-symbol_kind.kind _ _ _ _ first count in (
       omega arith,
       c.in_ok-read_attributes.ensures.few,
-      rw pushed (more _ _ _ _ _ _ _ _ _ c.symbols.invariant.2 _ c.in-Some.found c.follow.new.reached _ _ _ c.in_ok-found.ensures.value c.in-Some.is (omega arith)
+      rw pushed (more c.symbols.invariant.2 c.in_ok-found.ensures.value c.in-Some.is (omega arith)
           (symbol_more c.args.table.now.bytes.now c.args.start _ c.in-Some.found c.follow.new.reached
-          c.in-Some-symbol_kind.kind (c.len-in-Some.result + 1) _ c.in-Some-symbol_kind.ensures number refl _ _ c.in_ok-read_attributes.ensures.value) one),
+          c.in-Some-symbol_kind.kind (c.len-in-Some.result + 1) _ c.in-Some-symbol_kind.ensures number refl _ _ c.in_ok-read_attributes.ensures.value) one c.next_link-link.ensures),
     )
 
 pub returns : goal.returns
 returns c = record {
   start = refl;
   few = c.symbols.invariant.1;
-  value = ended _ _ _ _ _ _ _ _ _ c.symbols.invariant.2 _ c.follow.new.reached c.in_ok-found.ensures.value c.in_default.is;
+  value = ended c.symbols.invariant.2 c.in_ok-found.ensures.value c.in_default.is;
 }

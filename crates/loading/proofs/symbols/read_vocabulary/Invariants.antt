@@ -9,8 +9,8 @@ invariant-symbols l =
     let none : Gathered = record { symbols = []; attributes = [] } in
     let so_far : Gathered = record { symbols = vec_items l.symbols; attributes = vec_items l.attributes } in
     (vec_len l.symbols ≤ 48) × (vec_len l.attributes ≤ 64)
-    × Left l.table.bytes.now (symbol l.table.bytes.now l.start) 48 (vec_len l.symbols) so_far l.holder l.index l.reached
-    (along l.table.bytes.now (symbol l.table.bytes.now l.start) 48 none 0 l.initial.index l.initial.reached)
+    × Left l.table.bytes.now (symbol l.table.bytes.now l.start) 48 (vec_len l.symbols) so_far l.link l.reached
+    (along l.table.bytes.now (symbol l.table.bytes.now l.start) 48 none 0 l.first l.initial.reached)
 
 abbrev pub decreases-symbols : goal.decreases-symbols
 decreases-symbols l = 48 - vec_len l.symbols
