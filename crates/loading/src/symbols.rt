@@ -1,6 +1,6 @@
 // Reads the vocabulary of a table: its symbols, each with its attributes.
 ghost use Rattle.std.specs.Prelude.{◌≡◌, ℕ, ◌≤◌, IfOk, vec_len, OnOk};
-ghost use Rattle.grammar.specs.Kinds.{symbol_kind, attribute_kind};
+ghost use Rattle.grammar.specs.Kinds.{attribute_kind};
 ghost use Rattle.tables.specs.Reading.{Gives, standing, attributes as attributes_read, symbols as symbols_read};
 ghost use Rattle.loading.specs.Views.{gathered};
 
@@ -16,26 +16,13 @@ const MOST_ATTRIBUTES: usize = 64;
 
 const MOST_OF_ONE_SYMBOL: usize = 16;
 
-fn symbol_kind(word: u16) -> Option<SymbolKind>
-    ensures { result ≡ symbol_kind word }
+// The kind that a number names, where an attribute of that kind may stand at the symbol.
+fn attribute_kind(symbol: SymbolKind, starts: bool, number: u16) -> Option<AttributeKind>
+    ensures { result ≡ standing symbol starts (attribute_kind number) }
 {
-    match word {
-        1 => Some(SymbolKind::Inner),
-        2 => Some(SymbolKind::Terminal),
-        _ => None,
-    }
-}
-
-// The kind that a word names, where an attribute of that kind may stand at the symbol.
-fn attribute_kind(symbol: SymbolKind, starts: bool, word: u16) -> Option<AttributeKind>
-    ensures { result ≡ standing symbol starts (attribute_kind word) }
-{
-    match (symbol, word) {
-        (SymbolKind::Inner, 1) if !starts => Some(AttributeKind::Inherited),
-        (SymbolKind::Inner, 2) => Some(AttributeKind::Synthesized),
-        (SymbolKind::Terminal, 3) => Some(AttributeKind::Given),
-        _ => None,
-    }
+    AttributeKind::try_from(number)
+        .ok()
+        .filter(|kind| kind.may_stand_at(symbol, starts))
 }
 
 // Adds the attributes of the symbol at the record `at`.
@@ -100,7 +87,7 @@ pub(crate) fn read_vocabulary(
                 record: found.place,
             });
         }
-        let Some(kind) = symbol_kind(found.w1) else {
+        let Ok(kind) = SymbolKind::try_from(found.w1) else {
             return Err(Refusal::BadKind {
                 record: found.place,
             });

@@ -1,4 +1,4 @@
-use Rattle.std.proofs.Common.{◌≡◌, suc, ◌+◌, ◌-◌, length, is_ok, vec_items, vec_len, refl, ap, ◌∙◌, inl, inr, arith}
+use Rattle.std.proofs.Common.{◌≡◌, suc, ◌+◌, ◌-◌, length, is_ok, vec_items, vec_len, refl, ap, ◌∙◌, inl, inr, arith, rules}
 use Rattle.std.proofs.ResultArms.{chosen}
 use Rattle.std.proofs.lemmas.Result.{err_from_is_err_and}
 use Rattle.tables.proofs.Along.{ended, halted, passed, stopped, more}
@@ -14,13 +14,13 @@ pub returns-then-len-eq-MOST_SYMBOLS : goal.returns-then-len-eq-MOST_SYMBOLS
 returns-then-len-eq-MOST_SYMBOLS c =
     record { start = tt; few = tt; value = inr (passed c.symbols.invariant.2 c.in_ok-found.ensures.value c.in-Some.is (omega arith)) }
 
-pub returns-in_default-symbol_kind : goal.returns-in_default-symbol_kind
-returns-in_default-symbol_kind c =
+pub returns-in_default-try_from : goal.returns-in_default-try_from
+returns-in_default-try_from c =
     record {
       start = tt;
       few = tt;
       value = inr (stopped c.symbols.invariant.2 c.in_ok-found.ensures.value c.in-Some.is (omega arith)
-          (symbol_bad c.args.table.now.bytes.now c.args.start _ c.in-Some.found c.follow.new.reached c.in_default-symbol_kind.ensures));
+          (symbol_bad c.args.table.now.bytes.now c.args.start _ c.in-Some.found c.follow.new.reached (search rules)));
     }
 
 pub returns-in_err-read_attributes : goal.returns-in_err-read_attributes
@@ -34,7 +34,7 @@ returns-in_err-read_attributes c =
         | inl h ↦ inl h
         | inr h ↦ inr (stopped c.symbols.invariant.2 c.in_ok-found.ensures.value c.in-Some.is (omega arith)
             (symbol_refused c.args.table.now.bytes.now c.args.start _ c.in-Some.found c.follow.new.reached
-            c.in-Some-symbol_kind.kind (c.len-in-Some.result + 1) _ c.in-Some-symbol_kind.ensures number refl _ h))
+            c.in-Ok.kind (c.len-in-Some.result + 1) _ (search rules) number refl _ h))
       ];
     })
 
@@ -46,12 +46,12 @@ symbols-preserved c =
     let count : c.len-in-Some-3.result + 1 - (c.len-in-Some-2.result + 1) ≡ length (vec_items c.read_attributes.new.attributes) - length (vec_items c.symbols.attributes) =
     omega (arith, c.symbols.attributes.ok.0, c.read_attributes.new.attributes.ok.0, c.len-in-Some-2.ensures, c.len-in-Some-3.ensures) in
     let one : vec_len c.push.new.self ≡ vec_len c.symbols.symbols + 1 = chosen _ _ _ _ c.push.ensures.len ok in
-    let pushed = chosen _ _ _ _ c.push.ensures.items ok ∙ same_symbol (vec_items c.symbols.symbols) c.in-Some-symbol_kind.kind _ _ _ _ first count in (
+    let pushed = chosen _ _ _ _ c.push.ensures.items ok ∙ same_symbol (vec_items c.symbols.symbols) c.in-Ok.kind _ _ _ _ first count in (
       omega arith,
       c.in_ok-read_attributes.ensures.few,
       rw pushed (more c.symbols.invariant.2 c.in_ok-found.ensures.value c.in-Some.is (omega arith)
           (symbol_more c.args.table.now.bytes.now c.args.start _ c.in-Some.found c.follow.new.reached
-          c.in-Some-symbol_kind.kind (c.len-in-Some.result + 1) _ c.in-Some-symbol_kind.ensures number refl _ _ c.in_ok-read_attributes.ensures.value) one c.next_link-link.ensures),
+          c.in-Ok.kind (c.len-in-Some.result + 1) _ (search rules) number refl _ _ c.in_ok-read_attributes.ensures.value) one c.next_link-link.ensures),
     )
 
 pub returns : goal.returns
