@@ -46,8 +46,8 @@ Holds nodes index (brother n s p below rest) =
     (index ≡ n) × (1 ≤ n) × (n < length nodes) × ((node nodes n).symbol ≡ s) × ((node nodes n).production ≡ p)
     × Holds nodes (node nodes n).first_child below × Holds nodes (node nodes n).next_brother rest
 
--- no node stands in two places
-abbrev pub Apart : List ℕ → Type 0
+-- none stands in two places
+abbrev pub Apart : {A : Type 0} → List A → Type 0
 Apart [] = Unit {0}
 Apart (x ∷ xs) = (x ∈ xs → ⊥) × Apart xs
 

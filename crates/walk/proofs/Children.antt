@@ -9,9 +9,10 @@ use Rattle.trees.specs.declared.node.Node.{Node}
 use Rattle.trees.specs.Checking.{is_production, is_terminal, fits, children_symbols}
 use Rattle.trees.specs.Trees.{Forest, none, brother, Tree, depth, Derived, Stands}
 use Rattle.trees.specs.Laws.{Within, InTree, ChildAmong, Child}
+use Rattle.trees.proofs.Lists.{in_either}
 use Rattle.walk.specs.Walks.{joined, InnerChild, inner_children, InDirection}
 use Rattle.walk.specs.Paths.{inner_positions}
-use Rattle.walk.proofs.Members.{in_either, joined_either}
+use Rattle.walk.proofs.Members.{joined_either}
 use Rattle.walk.proofs.Lists.{map-joined}
 
 pub nothing_derived : (g : Grammar) (f : Forest) → Derived g [] f → f ≡ none

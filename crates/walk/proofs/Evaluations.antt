@@ -8,12 +8,13 @@ use Rattle.grammar.specs.Members.{◌∈◌}
 use Rattle.grammar.specs.Grammar.{Vocabulary, Grammar, Rule, symbol, no_symbol, given}
 use Rattle.grammar.specs.Lawful.{LawfulVocabulary}
 use Rattle.trees.specs.Checking.{node, production}
+use Rattle.trees.proofs.Lists.{in_left}
 use Rattle.walk.specs.Values.{Meaning}
 use Rattle.walk.specs.Programs.{Store, Assignment, Fulfilled, AllFulfilled, Within}
 use Rattle.walk.specs.Instances.{instance_at, arguments_at, kind_of, cell_of}
 use Rattle.walk.specs.Passes.{Task, rule_at, pass_program, RuleSets, number_at}
 use Rattle.walk.specs.Evaluation.{OfTask, holds, Evaluated, SameUpTo, SameGiven, Enough, CarriedOut, PassSetsItsNumberAlone, PassesCompose, PassEvaluates, EvaluationStays, EvaluationIsUnique, Takes, first_taking, before_pass, RewritingKeepsTheEarlier}
-use Rattle.walk.proofs.Members.{in_left, from_map}
+use Rattle.walk.proofs.Members.{from_map}
 use Rattle.walk.proofs.Executions.{fulfilled_alike, untouched_stay, execution_keeps_the_length, all_fulfilled, Touched, targets_agree}
 use Rattle.walk.proofs.Takers.{first_taking_is_least}
 use Rattle.walk.proofs.Rules.{rule_there}

@@ -4,8 +4,8 @@ use Rattle.std.proofs.lemmas.Bool.{cases_eq}
 use Rattle.std.specs.List.{slice_get}
 use Rattle.refusal.specs.declared.Site.{Site}
 use Rattle.grammar.specs.Members.{◌∈◌}
+use Rattle.trees.proofs.Lists.{in_left}
 use Rattle.walk.specs.Programs.{Store, Assignment, outcome, Fulfilled, AllFulfilled, Executes, execution, Leads, Ordered, Untouched, Within, Stopped, ExecutionFulfils, FulfilmentIsUnique, BeginningsLikewise, ExecutionStopsAtTheUndefined}
-use Rattle.walk.proofs.Members.{in_left}
 use Rattle.walk.proofs.Stores.{set_cell_holds, other_cells_stay, map_alike}
 
 module _ {V : Type 0} where

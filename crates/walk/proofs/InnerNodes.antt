@@ -8,8 +8,8 @@ use Rattle.trees.specs.Checking.{node}
 use Rattle.trees.specs.Trees.{Forest, none, brother, Tree, Stands}
 use Rattle.trees.specs.Laws.{Within}
 use Rattle.trees.proofs.Symbols.{nodes_have_their_children}
+use Rattle.trees.proofs.Lists.{in_either}
 use Rattle.walk.specs.Walks.{inners, inner_nodes, InnerNodesHaveInnerSymbols}
-use Rattle.walk.proofs.Members.{in_either}
 use Rattle.walk.proofs.Children.{fits_inner}
 use Rattle.walk.proofs.Tours.{inners_are_numbers, inners_apart}
 use Rattle.walk.proofs.Places.{inner_in_row, node_is_inner}

@@ -1,14 +1,15 @@
--- Counts and parts of lists that are made by `++`, `joined` and `flat`.
+-- Counts and parts of lists that are made by `++`, `joined` and `flat_map`.
 use Rattle.std.proofs.Common.{◌≡◌, ℕ, ◌+◌, ◌≤◌, eqb, List, [], ◌∷◌, ◌++◌, map, length, sum_by, count_by, sym, refl, ap, ◌∙◌, subst, inl, inr, append_assoc, append-nil, arith, length-append}
+use Rattle.std.specs.List.{flat_map}
 use Rattle.std.proofs.lemmas.List.{map-append}
+use Rattle.std.proofs.lemmas.Grind.{flat_map-append}
 use Rattle.std.proofs.lemmas.List.Sums.{sum_by-cons, sum_by-append}
 use Rattle.std.proofs.lemmas.Bool.{cases_lt, cases_eq, eq-eqb, ne_eqb, cond-true, cond-false}
 use Rattle.plans.specs.declared.Direction.{Direction}
 use Rattle.plans.specs.declared.Direction.TheVariants.{Left, Right}
 use Rattle.grammar.specs.Members.{◌∈◌}
 use Rattle.trees.specs.Trees.{Apart}
-use Rattle.walk.specs.Walks.{joined, flat, Inside, OnceEach}
-use Rattle.walk.proofs.Members.{in_either}
+use Rattle.walk.specs.Walks.{joined, Inside, OnceEach}
 
 module _ {A : Type 0} where
   pub length-joined : (d : Direction) (xs ys : List A) → length (joined d xs ys) ≡ length xs + length ys
@@ -33,13 +34,9 @@ module _ {A : Type 0} where
   inside_second Right part xs ys h = inside_left part ys xs h
 
 module _ {A B : Type 0} (f : A → List B) where
-  pub flat_append : (xs ys : List A) → flat f (xs ++ ys) ≡ flat f xs ++ flat f ys
-  flat_append [] ys = refl
-  flat_append (x ∷ xs) ys = ap (λ l. f x ++ l) (flat_append xs ys) ∙ sym (append_assoc (f x) _ _)
-
-  pub flat_joined : (d : Direction) (xs ys : List A) → flat f (joined d xs ys) ≡ joined d (flat f xs) (flat f ys)
-  flat_joined Left xs ys = flat_append xs ys
-  flat_joined Right xs ys = flat_append ys xs
+  pub flat_joined : (d : Direction) (xs ys : List A) → flat_map f (joined d xs ys) ≡ joined d (flat_map f xs) (flat_map f ys)
+  flat_joined Left xs ys = flat_map-append f xs ys
+  flat_joined Right xs ys = flat_map-append f ys xs
 
 pub map-joined : {A B : Type 0} (f : A → B) (d : Direction) (xs ys : List A) → map f (joined d xs ys) ≡ joined d (map f xs) (map f ys)
 map-joined f Left xs ys = map-append f xs ys
@@ -67,13 +64,6 @@ counts_member n (x ∷ xs) (inr m) = elim (cases_eq n x) [
 member_counted : (n : ℕ) (xs : List ℕ) → 1 ≤ count_by (eqb n) xs → n ∈ xs
 member_counted n [] h = absurd (omega arith)
 member_counted n (x ∷ xs) h = elim (cases_eq n x) [ inl e ↦ inl e | inr o ↦ inr (member_counted n xs (omega (arith, counts_other n x xs o))) ]
-
-pub apart_append : (xs ys : List ℕ) → Apart xs → Apart ys → ((n : ℕ) → n ∈ xs → n ∈ ys → ⊥) → Apart (xs ++ ys)
-apart_append [] ys a b h = b
-apart_append (x ∷ xs) ys a b h = (
-  λ m. elim (in_either xs ys x m) [ inl l ↦ a.0 l | inr r ↦ h x (inl refl) r ],
-  apart_append xs ys a.1 b (λ n l r. h n (inr l) r),
-)
 
 counts_no_member : (n : ℕ) (xs : List ℕ) → (n ∈ xs → ⊥) → count_by (eqb n) xs ≡ 0
 counts_no_member n xs h = elim (cases_lt 0 (count_by (eqb n) xs)) [ inl l ↦ absurd (h (member_counted n xs (omega arith))) | inr l ↦ omega arith ]

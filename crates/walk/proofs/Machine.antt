@@ -1,5 +1,6 @@
 -- Moves along paths: they perform the walk.
 use Rattle.std.proofs.Common.{◌≡◌, ℕ, suc, ◌+◌, ◌≤◌, Bool, true, false, cond, List, [], ◌∷◌, ◌++◌, length, Some, None, Option, sym, refl, ap, ◌∙◌, subst, ap₂, inl, inr, append_assoc, arith}
+use Rattle.std.specs.List.{flat_map}
 use mathlib.Core.List.{append_cancel_right, nil≢cons, cons≢nil, head-eq_of_cons-eq, tail-eq_of_cons-eq}
 use Rattle.std.proofs.lemmas.Bool.Decides.{nat_tests}
 use Rattle.plans.specs.declared.Direction.{Direction}
@@ -13,7 +14,7 @@ use Rattle.trees.specs.Laws.{Within, InTree}
 use Rattle.trees.proofs.Symbols.{nodes_have_their_children}
 use Rattle.walk.specs.declared.entry.Entry.{Entry}
 use Rattle.walk.specs.Positions.{at_position}
-use Rattle.walk.specs.Walks.{Step, enter, leave, tour, walk, flat, InnerChild, inner_children, visit, Sooner, InDirection}
+use Rattle.walk.specs.Walks.{Step, enter, leave, tour, walk, InnerChild, inner_children, visit, Sooner, InDirection}
 use Rattle.walk.specs.Paths.{to_come, inner_positions, first_to_come, fresh, root_path, next_position, step_to, path_to, path_after, Performs, MovesPerformTheWalk, MovesFollowTheWalk, PathTellsTheMoves, PathIsWithinTheDepth}
 use Rattle.walk.proofs.Members.{in_map}
 use Rattle.walk.proofs.Children.{positions, position_from, positions_in_direction, inner_child_stands, inner_child_within, depth_within, below_in_tree, child_in_tree, derived_in_tree, positions_by_symbols}
@@ -99,9 +100,9 @@ record Standing (t : Tree) (e : Entry) (outside : ℕ) : Type 0 where
   room : outside + 1 + depth children ≤ tree_depth t
 
 -- when a node is entered, all that is below it is to be visited
-remaining_fresh : (d : Direction) (n : ℕ) (cs : Forest) → flat (visit d n) (remaining d 0 (inner_children d 1 cs)) ≡ tour d n 1 cs
+remaining_fresh : (d : Direction) (n : ℕ) (cs : Forest) → flat_map (visit d n) (remaining d 0 (inner_children d 1 cs)) ≡ tour d n 1 cs
 remaining_fresh d n cs =
-    ap (flat (visit d n)) (remaining_all d 0 (inner_children d 1 cs) (λ k m. to_come_first d k (position_from d 1 cs k m)))
+    ap (flat_map (visit d n)) (remaining_all d 0 (inner_children d 1 cs) (λ k m. to_come_first d k (position_from d 1 cs k m)))
     ∙ sym (tour_visits_brothers d n 1 cs)
 
 -- moves from one path to the empty one perform the same steps
@@ -121,7 +122,7 @@ module _ (g : Grammar) (nodes : List Node) (t : Tree) (st : Stands g nodes t) (d
   Pending [] steps = steps ≡ []
   Pending (e ∷ path) steps =
       (at : Standing t e (length path)) × (rest : List Step)
-      × (steps ≡ flat (visit d e.node) (remaining d e.last (inner_children d 1 at.children)) ++ leave e.node ∷ rest)
+      × (steps ≡ flat_map (visit d e.node) (remaining d e.last (inner_children d 1 at.children)) ++ leave e.node ∷ rest)
       × Pending path rest
 
   pending_root : Pending root_path (walk d t)
@@ -168,7 +169,7 @@ module _ (g : Grammar) (nodes : List Node) (t : Tree) (st : Stands g nodes t) (d
       within = inner_child_within d 1 at.children c next.member
 
       after : List Step
-      after = flat (visit d e.node) (remaining d c.position cs) ++ leave e.node ∷ p.1
+      after = flat_map (visit d e.node) (remaining d c.position cs) ++ leave e.node ∷ p.1
 
       Enters : ℕ → Type 0
       Enters m = (rest : List Step) × (steps ≡ enter e.node c.position m ∷ rest) × Pending (fresh m ∷ record { node = e.node; last = c.position } ∷ path) rest
@@ -188,7 +189,7 @@ module _ (g : Grammar) (nodes : List Node) (t : Tree) (st : Stands g nodes t) (d
       enters : Enters c.node
       enters = (
         tour d c.node 1 c.below ++ leave c.node ∷ after,
-        p.2 ∙ ap (λ r. flat (visit d e.node) r ++ leave e.node ∷ p.1) (q ∙ ap (λ r. c ∷ r) (sym next.remain)) ∙ simp append_assoc,
+        p.2 ∙ ap (λ r. flat_map (visit d e.node) r ++ leave e.node ∷ p.1) (q ∙ ap (λ r. c ∷ r) (sym next.remain)) ∙ simp append_assoc,
         (
           child_standing,
           after,
@@ -201,7 +202,7 @@ module _ (g : Grammar) (nodes : List Node) (t : Tree) (st : Stands g nodes t) (d
   move_pending e path steps p = subst (Moved e path steps) (sym (next_remaining e (length path) p.0)) (by_remaining (remaining d e.last (inner_children d 1 p.0.children)) refl)
     where
       by_remaining : (r : List InnerChild) → remaining d e.last (inner_children d 1 p.0.children) ≡ r → Moved e path steps (first_position r)
-      by_remaining [] q = (p.1, p.2 ∙ ap (λ r. flat (visit d e.node) r ++ leave e.node ∷ p.1) q, p.3)
+      by_remaining [] q = (p.1, p.2 ∙ ap (λ r. flat_map (visit d e.node) r ++ leave e.node ∷ p.1) q, p.3)
       by_remaining (c ∷ others) q = move_enters e path steps p c others q
 
   performs_pending : (steps : List Step) (path : List Entry) → Pending path steps → Performs g nodes d path steps []

@@ -1,25 +1,13 @@
 -- The members of lists: by place, and of joined, mapped and flattened lists.
 use Rattle.std.proofs.Common.{◌≡◌, ℕ, zero, suc, ◌<◌, ◌⊎◌, List, [], ◌∷◌, ◌++◌, map, length, get_or, sym, refl, ap, subst, inl, inr, arith}
+use Rattle.std.specs.List.{flat_map}
 use Rattle.plans.specs.declared.Direction.{Direction}
 use Rattle.plans.specs.declared.Direction.TheVariants.{Left, Right}
 use Rattle.grammar.specs.Members.{◌∈◌}
-use Rattle.walk.specs.Walks.{joined, flat}
+use Rattle.trees.proofs.Lists.{in_left, in_right, in_either}
+use Rattle.walk.specs.Walks.{joined}
 
 module _ {A : Type 0} where
-  pub in_left : (xs ys : List A) (x : A) → x ∈ xs → x ∈ (xs ++ ys)
-  in_left [] ys x m = absurd m
-  in_left (z ∷ xs) ys x (inl e) = inl e
-  in_left (z ∷ xs) ys x (inr m) = inr (in_left xs ys x m)
-
-  pub in_right : (xs ys : List A) (x : A) → x ∈ ys → x ∈ (xs ++ ys)
-  in_right [] ys x m = m
-  in_right (z ∷ xs) ys x m = inr (in_right xs ys x m)
-
-  pub in_either : (xs ys : List A) (x : A) → x ∈ (xs ++ ys) → (x ∈ xs) ⊎ (x ∈ ys)
-  in_either [] ys x m = inr m
-  in_either (z ∷ xs) ys x (inl e) = inl (inl e)
-  in_either (z ∷ xs) ys x (inr m) = elim (in_either xs ys x m) [ inl h ↦ inl (inr h) | inr h ↦ inr h ]
-
   pub joined_first : (d : Direction) (xs ys : List A) (x : A) → x ∈ xs → x ∈ joined d xs ys
   joined_first Left xs ys x m = in_left xs ys x m
   joined_first Right xs ys x m = in_right ys xs x m
@@ -54,14 +42,14 @@ module _ {A B : Type 0} (f : A → B) where
   from_map (z ∷ xs) y (inr m) = let r = from_map xs y m in (r.0, inr r.1, r.2)
 
 module _ {A B : Type 0} (f : A → List B) where
-  pub in_flat : (xs : List A) (x : A) (y : B) → x ∈ xs → y ∈ f x → y ∈ flat f xs
+  pub in_flat : (xs : List A) (x : A) (y : B) → x ∈ xs → y ∈ f x → y ∈ flat_map f xs
   in_flat [] x y m n = absurd m
-  in_flat (z ∷ xs) x y (inl e) n = in_left (f z) (flat f xs) y (subst (λ w. y ∈ f w) e n)
-  in_flat (z ∷ xs) x y (inr m) n = in_right (f z) (flat f xs) y (in_flat xs x y m n)
+  in_flat (z ∷ xs) x y (inl e) n = in_left (f z) (flat_map f xs) y (subst (λ w. y ∈ f w) e n)
+  in_flat (z ∷ xs) x y (inr m) n = in_right (f z) (flat_map f xs) y (in_flat xs x y m n)
 
-  pub from_flat : (xs : List A) (y : B) → y ∈ flat f xs → (x : A) × (x ∈ xs) × (y ∈ f x)
+  pub from_flat : (xs : List A) (y : B) → y ∈ flat_map f xs → (x : A) × (x ∈ xs) × (y ∈ f x)
   from_flat [] y m = absurd m
-  from_flat (z ∷ xs) y m = elim (in_either (f z) (flat f xs) y m) [
+  from_flat (z ∷ xs) y m = elim (in_either (f z) (flat_map f xs) y m) [
     | inl h ↦ (z, inl refl, h)
     | inr h ↦ let r = from_flat xs y h in (r.0, inr r.1, r.2)
   ]

@@ -15,6 +15,7 @@ use Rattle.trees.specs.Checking.{node, production}
 use Rattle.trees.specs.Laws.{Child}
 use Rattle.trees.proofs.Symbols.{child_has_its_symbol}
 use Rattle.trees.proofs.Cells.{cells_differ}
+use Rattle.trees.proofs.Lists.{in_right}
 use Rattle.walk.specs.Values.{Meaning}
 use Rattle.walk.specs.Programs.{Assignment, Ordered}
 use Rattle.walk.specs.Positions.{at_position}
@@ -22,7 +23,7 @@ use Rattle.walk.specs.Walks.{Step, enter, leave, walk, Sooner}
 use Rattle.walk.specs.Turns.{Earlier, InTurn, HasItsSteps}
 use Rattle.walk.specs.Instances.{instance_at, arguments_at, IsInstance, cell_of}
 use Rattle.walk.specs.Passes.{Task, RuleSets, number_at, PassIsOrdered}
-use Rattle.walk.proofs.Members.{from_map, in_right}
+use Rattle.walk.proofs.Members.{from_map}
 use Rattle.walk.proofs.Places.{child_is_inner}
 use Rattle.walk.proofs.Occurrences.{occurrence_is_child}
 use Rattle.walk.proofs.Rules.{rule_there, rules_set_instances, arguments_are_instances, each_instance_has_one_rule}

@@ -1,11 +1,13 @@
 -- Ordered lists of assignments, from ordered parts.
 use Rattle.std.proofs.Common.{◌≡◌, ℕ, ◌≢◌, List, [], ◌∷◌, ◌++◌, map, sym, refl, ap, subst, inl, inr}
+use Rattle.std.specs.List.{flat_map}
 use Rattle.grammar.specs.Members.{◌∈◌}
 use Rattle.trees.specs.Trees.{Apart}
+use Rattle.trees.proofs.Lists.{in_either}
 use Rattle.walk.specs.Programs.{Assignment, Ordered}
-use Rattle.walk.specs.Walks.{Step, flat}
+use Rattle.walk.specs.Walks.{Step}
 use Rattle.walk.specs.Turns.{Earlier}
-use Rattle.walk.proofs.Members.{in_either, member_splits, from_map, from_flat}
+use Rattle.walk.proofs.Members.{member_splits, from_map, from_flat}
 
 -- nothing that the first one reads or sets is set by the second
 pub record Undisturbed {V : Type 0} (a b : Assignment V) : Type 0 where
@@ -40,10 +42,10 @@ module _ {V : Type 0} where
 
   -- each part is ordered, and a part is not disturbed by the parts of later steps
   pub ordered_flat : (f : Step → List (Assignment V)) (steps : List Step) → ((s : Step) → s ∈ steps → Ordered (f s))
-      → ((s s' : Step) → Earlier steps s s' → (a b : Assignment V) → a ∈ f s → b ∈ f s' → Undisturbed a b) → Ordered (flat f steps)
+      → ((s s' : Step) → Earlier steps s s' → (a b : Assignment V) → a ∈ f s → b ∈ f s' → Undisturbed a b) → Ordered (flat_map f steps)
   ordered_flat f [] each pairs = tt
   ordered_flat f (s ∷ steps) each pairs =
-      ordered_append (f s) (flat f steps) (each s (inl refl))
+      ordered_append (f s) (flat_map f steps) (each s (inl refl))
       (ordered_flat f steps (λ z m. each z (inr m))
       (λ y z e. pairs y z (record { before = s ∷ e.before; between = e.between; behind = e.behind; split = ap (λ zs. s ∷ zs) e.split })))
       (λ a b m n.

@@ -10,9 +10,9 @@ use Rattle.trees.specs.Checking.{no_node, node, fits, children_symbols}
 use Rattle.trees.specs.Trees.{Forest, none, brother, Tree, numbers, tree_numbers, Derived, Holds, Stands}
 use Rattle.trees.specs.Laws.{symbols_of, Within, InTree, ChildAmong, Child}
 use Rattle.trees.proofs.Symbols.{nodes_have_their_children}
+use Rattle.trees.proofs.Lists.{in_left, in_right, in_either}
 use Rattle.walk.specs.Walks.{inners, inner_nodes}
 use Rattle.walk.specs.Positions.{brothers_on, at_position, ChildrenStandAtTheirPositions, PositionsHaveChildren}
-use Rattle.walk.proofs.Members.{in_left, in_right, in_either}
 use Rattle.walk.proofs.Children.{nothing_derived}
 use Rattle.walk.proofs.Tours.{inners_are_numbers}
 use Rattle.walk.proofs.Owners.{named}

@@ -9,11 +9,12 @@ use Rattle.grammar.specs.Lawful.{Used}
 use Rattle.grammar.proofs.Members.{all_member}
 use Rattle.trees.specs.declared.node.Node.{Node}
 use Rattle.trees.specs.Checking.{node, production}
+use Rattle.trees.proofs.Lists.{in_right, in_either}
 use Rattle.walk.specs.Values.{Meaning}
 use Rattle.walk.specs.Programs.{Assignment, Ordered, Untouched}
 use Rattle.walk.specs.Instances.{instance_at, arguments_at, IsInstance, kind_of, cell_of}
 use Rattle.walk.specs.Passes.{Task, rule_at, pass_program, RuleSets, number_at, ArgumentsAreReady}
-use Rattle.walk.proofs.Members.{in_right, in_either, in_map, from_map}
+use Rattle.walk.proofs.Members.{in_map, from_map}
 use Rattle.walk.proofs.Executions.{ordered_leads}
 use Rattle.walk.proofs.Rules.{RuleThere, rule_there, rules_set_instances, each_instance_has_one_rule, arguments_are_instances}
 use Rattle.walk.proofs.Steps.{pass_carries_out_its_rules}

@@ -1,9 +1,9 @@
 -- Members of lists by place, kept by a test, and counted.
 use Rattle.std.proofs.Common.{◌≡◌, ℕ, zero, suc, ◌+◌, ◌<◌, ◌≤◌, Bool, true, cond, List, [], ◌∷◌, length, get_or, filter, sym, ap, ◌∙◌, subst, inl, inr, arith}
+use Rattle.std.specs.List.{range_with_len}
 use Rattle.std.proofs.lemmas.Bool.{cases_Bool, cases_eq}
 use Rattle.grammar.specs.Members.{◌∈◌}
 use Rattle.trees.specs.Trees.{Apart}
-use Rattle.walk.specs.Passes.{counted}
 
 module _ {X : Type 0} where
   pub member_place : (xs : List X) (x d : X) → x ∈ xs → (i : ℕ) × (i < length xs) × (get_or xs i d ≡ x)
@@ -29,18 +29,18 @@ module _ {X : Type 0} where
     | inr k ↦ rw k (member_kept test ys x m h)
   ]
 
-pub counted_member : (first count a : ℕ) → a ∈ counted first count → (first ≤ a) × (a < first + count)
+pub counted_member : (first count a : ℕ) → a ∈ range_with_len first count → (first ≤ a) × (a < first + count)
 counted_member first zero a m = absurd m
 counted_member first (suc count) a (inl e) = (omega arith, omega arith)
-counted_member first (suc count) a (inr m) = let h = counted_member (suc first) count a m in (omega (arith, h.0), omega (arith, h.1))
+counted_member first (suc count) a (inr m) = let h = counted_member (first + 1) count a m in (omega (arith, h.0), omega (arith, h.1))
 
-pub member_counted : (first count a : ℕ) → first ≤ a → a < first + count → a ∈ counted first count
+pub member_counted : (first count a : ℕ) → first ≤ a → a < first + count → a ∈ range_with_len first count
 member_counted first zero a low high = absurd (omega arith)
-member_counted first (suc count) a low high = elim (cases_eq a first) [ inl e ↦ inl e | inr n ↦ inr (member_counted (suc first) count a (omega arith) (omega arith)) ]
+member_counted first (suc count) a low high = elim (cases_eq a first) [ inl e ↦ inl e | inr n ↦ inr (member_counted (first + 1) count a (omega arith) (omega arith)) ]
 
-pub apart_counted : (first count : ℕ) → Apart (counted first count)
+pub apart_counted : (first count : ℕ) → Apart (range_with_len first count)
 apart_counted first zero = tt
-apart_counted first (suc count) = (λ m. let h = counted_member (suc first) count first m in omega (arith, h.0), apart_counted (suc first) count)
+apart_counted first (suc count) = (λ m. let h = counted_member (first + 1) count first m in omega (arith, h.0), apart_counted (first + 1) count)
 
 pub apart_kept : (test : ℕ → Bool) (xs : List ℕ) → Apart xs → Apart (filter test xs)
 apart_kept test [] a = tt

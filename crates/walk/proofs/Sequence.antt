@@ -3,9 +3,11 @@ use Rattle.std.proofs.Common.{◌≡◌, ◌⊎◌, List, [], ◌∷◌, ◌++�
 use Rattle.grammar.specs.Members.{◌∈◌}
 use Rattle.plans.specs.declared.Direction.{Direction}
 use Rattle.plans.specs.declared.Direction.TheVariants.{Left, Right}
+use Rattle.trees.specs.Trees.{Apart}
+use Rattle.trees.proofs.Lists.{in_left, in_right, apart_append}
 use Rattle.walk.specs.Walks.{Step, joined}
 use Rattle.walk.specs.Turns.{Earlier}
-use Rattle.walk.proofs.Members.{in_left, in_right, in_either, member_splits}
+use Rattle.walk.proofs.Members.{member_splits}
 
 module _ {A : Type 0} where
   -- x stands before y
@@ -40,21 +42,12 @@ module _ {A : Type 0} where
   before_members x y (z ∷ zs) (inl h) = (inl h.0, inr h.1)
   before_members x y (z ∷ zs) (inr h) = let m = before_members x y zs h in (inr m.0, inr m.1)
 
-  abbrev pub Distinct : List A → Type 0
-  Distinct [] = Unit {0}
-  Distinct (x ∷ xs) = (x ∈ xs → ⊥) × Distinct xs
-
-  pub distinct_append : (xs ys : List A) → Distinct xs → Distinct ys → ((x : A) → x ∈ xs → x ∈ ys → ⊥) → Distinct (xs ++ ys)
-  distinct_append [] ys p q h = q
-  distinct_append (x ∷ xs) ys p q h =
-      (λ m. elim (in_either xs ys x m) [ inl n ↦ p.0 n | inr n ↦ h x (inl refl) n ], distinct_append xs ys p.1 q (λ y m n. h y (inr m) n))
-
-  pub distinct_joined : (d : Direction) (xs ys : List A) → Distinct xs → Distinct ys → ((x : A) → x ∈ xs → x ∈ ys → ⊥) → Distinct (joined d xs ys)
-  distinct_joined Left xs ys p q h = distinct_append xs ys p q h
-  distinct_joined Right xs ys p q h = distinct_append ys xs q p (λ x m n. h x n m)
+  pub apart_joined : (d : Direction) (xs ys : List A) → Apart xs → Apart ys → ((x : A) → x ∈ xs → x ∈ ys → ⊥) → Apart (joined d xs ys)
+  apart_joined Left xs ys p q h = apart_append xs ys p q h
+  apart_joined Right xs ys p q h = apart_append ys xs q p (λ x m n. h x n m)
 
   -- in a list without repetition no two members stand each before the other
-  pub one_way : (x y : A) (xs : List A) → Distinct xs → ComesBefore xs x y → ComesBefore xs y x → ⊥
+  pub one_way : (x y : A) (xs : List A) → Apart xs → ComesBefore xs x y → ComesBefore xs y x → ⊥
   one_way x y [] o h k = h
   one_way x y (z ∷ zs) o (inl h) (inl k) = o.0 (subst (λ w. w ∈ zs) h.0 k.1)
   one_way x y (z ∷ zs) o (inl h) (inr k) = o.0 (subst (λ w. w ∈ zs) h.0 (before_members y x zs k).1)

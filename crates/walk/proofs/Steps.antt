@@ -1,5 +1,6 @@
 -- What the steps of a pass set: the instances with its number, each at the step of its rule.
 use Rattle.std.proofs.Common.{◌≡◌, ℕ, zero, suc, Bool, true, false, ◌&&◌, eqb, ◌⊎◌, List, [], ◌∷◌, map, Some, sym, refl, ap, ◌∙◌, subst, inl, inr, arith}
+use Rattle.std.specs.List.{range_with_len}
 use Rattle.std.proofs.lemmas.Bool.{cases_Bool, both_ways, and_parts, and_from, eqb-true, eq-eqb}
 use Rattle.refusal.specs.declared.Site.{Site}
 use Rattle.grammar.specs.declared.vocabulary.AttributeKind.{AttributeKind}
@@ -21,7 +22,7 @@ use Rattle.walk.specs.Positions.{at_position}
 use Rattle.walk.specs.Walks.{Step, enter, leave, inners, inner_nodes, walk}
 use Rattle.walk.specs.Turns.{HasItsSteps}
 use Rattle.walk.specs.Instances.{rules_at, instance_at, IsInstance, kind_of}
-use Rattle.walk.specs.Passes.{Task, RuleSets, number_at, rule_at, set_at, set_by, due, settings, inherited, synthesized, counted, PassCarriesOutItsRules}
+use Rattle.walk.specs.Passes.{Task, RuleSets, number_at, rule_at, set_at, set_by, due, settings, inherited, synthesized, PassCarriesOutItsRules}
 use Rattle.walk.proofs.Members.{from_map, in_map, from_flat, in_flat}
 use Rattle.walk.proofs.Turning.{walk_has_its_steps}
 use Rattle.walk.proofs.Selections.{kept_member, member_kept, counted_member, member_counted, apart_counted, apart_kept}
@@ -162,7 +163,7 @@ module _ {V : Type 0} (m : Meaning V) (task : Task) where
         → HasAttribute task.grammar.vocabulary (node task.nodes n).symbol a × (task.number a ≡ pass) × (kind (attribute task.grammar.vocabulary a).kind ≡ true)
     due_is kind n a h =
         let s = symbol task.grammar.vocabulary (node task.nodes n).symbol in
-        let kept = kept_member (is_set kind) (counted s.first s.count) a h in
+        let kept = kept_member (is_set kind) (range_with_len s.first s.count) a h in
         let parts = and_parts _ _ kept.1 in
         (counted_member s.first s.count a kept.0, eqb-true _ _ parts.0, parts.1)
 
@@ -170,7 +171,7 @@ module _ {V : Type 0} (m : Meaning V) (task : Task) where
         → kind (attribute task.grammar.vocabulary a).kind ≡ true → a ∈ due task.grammar task.nodes task.number pass kind n
     is_due kind n a has e k =
         let s = symbol task.grammar.vocabulary (node task.nodes n).symbol in
-        member_kept (is_set kind) (counted s.first s.count) a
+        member_kept (is_set kind) (range_with_len s.first s.count) a
         (member_counted s.first s.count a has.0 has.1) (and_from _ _ (eq-eqb _ _ e) k)
 
     abbrev pub its_settings : Step → List (Assignment V)
@@ -228,7 +229,7 @@ module _ {V : Type 0} (m : Meaning V) (task : Task) where
     due_apart : (kind : AttributeKind → Bool) (n : ℕ) → Apart (due task.grammar task.nodes task.number pass kind n)
     due_apart kind n =
         let s = symbol task.grammar.vocabulary (node task.nodes n).symbol in
-        apart_kept (is_set kind) (counted s.first s.count) (apart_counted s.first s.count)
+        apart_kept (is_set kind) (range_with_len s.first s.count) (apart_counted s.first s.count)
 
     settled_on_enter : (s : Step) (x j n : ℕ) → Child task.tree x j n → s ≡ enter x j n → Settled m task pass s
     settled_on_enter s x j n c e = record {

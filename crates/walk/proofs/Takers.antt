@@ -1,10 +1,10 @@
 -- The least number of the attributes with a rule that takes an attribute.
 use Rattle.std.proofs.Common.{◌≡◌, ℕ, ◌≤◌, Bool, true, false, cond, eqb, ◌⊎◌, List, [], ◌∷◌, Some, None, Option, refl, ap, subst, inl, inr, arith}
+use Rattle.std.specs.List.{flat_map}
 use Rattle.std.proofs.lemmas.Bool.{cases_lt, eqb-true, eq-eqb, or_cases, or_parts, both_ways}
 use Rattle.grammar.specs.declared.production.Occurrence.{Occurrence}
 use Rattle.grammar.specs.Members.{◌∈◌}
 use Rattle.grammar.specs.Grammar.{Grammar, Rule}
-use Rattle.walk.specs.Walks.{flat}
 use Rattle.walk.specs.Evaluation.{Takes, is_among, lesser, least_taking, FirstTakingIsLeast}
 use Rattle.walk.proofs.Members.{in_flat, from_flat}
 
@@ -89,7 +89,7 @@ module _ (a : ℕ) where
 
 -- the takers of a grammar are those among the rules of its productions
 module _ (g : Grammar) (a b : ℕ) where
-  from_taker : Taker a (flat (λ p. p.rules) g.productions) b → Takes g a b
+  from_taker : Taker a (flat_map (λ p. p.rules) g.productions) b → Takes g a b
   from_taker t =
       let p = from_flat (λ p. p.rules) g.productions t.rule t.listed in
       record {
@@ -103,7 +103,7 @@ module _ (g : Grammar) (a b : ℕ) where
         sets = t.sets;
       }
 
-  to_taker : Takes g a b → Taker a (flat (λ p. p.rules) g.productions) b
+  to_taker : Takes g a b → Taker a (flat_map (λ p. p.rules) g.productions) b
   to_taker t = record {
     rule = t.rule;
     listed = in_flat (λ p. p.rules) g.productions t.production t.rule t.in_grammar t.in_production;
@@ -125,4 +125,4 @@ first_taking_is_least g number a = (
 )
   where
     rules : List Rule
-    rules = flat (λ p. p.rules) g.productions
+    rules = flat_map (λ p. p.rules) g.productions

@@ -1,5 +1,6 @@
 -- The walk: its length, what it enters and leaves, and in which order.
 use Rattle.std.proofs.Common.{◌≡◌, ℕ, zero, suc, ◌*◌, eqb, List, [], ◌∷◌, ◌++◌, length, count_by, refl, ap, subst, inl, inr, append-nil, arith, length-append}
+use Rattle.std.specs.List.{flat_map}
 use Rattle.std.proofs.lemmas.List.Sums.{sum_by-cons, sum_by-append}
 use Rattle.plans.specs.declared.Direction.{Direction}
 use Rattle.plans.specs.declared.Direction.TheVariants.{Left, Right}
@@ -8,10 +9,9 @@ use Rattle.grammar.specs.Grammar.{Grammar}
 use Rattle.trees.specs.Checking.{children_symbols}
 use Rattle.trees.specs.Trees.{Forest, none, brother, numbers, Derived, Apart}
 use Rattle.trees.specs.Laws.{Within, ChildAmong}
-use Rattle.trees.proofs.Lists.{apart_left, apart_right, never_both}
-use Rattle.walk.specs.Walks.{Step, enter, leave, inners, joined, tour, entered, left, flat, inner_children, visit, Inside, WalkLength, WalkEntersEachOnce, WalkLeavesEachOnce, BrothersAreVisitedInOrder, WalkNests}
-use Rattle.walk.proofs.Members.{in_left, in_right, in_either}
-use Rattle.walk.proofs.Lists.{length-joined, flat_joined, sumBy_joined, apart_append, once_each_by_counts, inside_self, inside_left, inside_right, inside_first, inside_second}
+use Rattle.trees.proofs.Lists.{apart_left, apart_right, never_both, in_left, in_right, in_either, apart_append}
+use Rattle.walk.specs.Walks.{Step, enter, leave, inners, joined, tour, entered, left, inner_children, visit, Inside, WalkLength, WalkEntersEachOnce, WalkLeavesEachOnce, BrothersAreVisitedInOrder, WalkNests}
+use Rattle.walk.proofs.Lists.{length-joined, flat_joined, sumBy_joined, once_each_by_counts, inside_self, inside_left, inside_right, inside_first, inside_second}
 use Rattle.walk.proofs.Children.{nothing_derived, positions_in_direction}
 
 tour_length : (d : Direction) (parent position : ℕ) (f : Forest) → length (tour d parent position f) ≡ 2 * length (inners f)
@@ -90,7 +90,7 @@ pub walk_leaves_each_once : WalkLeavesEachOnce
 walk_leaves_each_once d t a = once_each_by_counts _ (0 ∷ inners t.children) (λ m. a.0 (inners_are_numbers t.children 0 m), inners_apart t.children a.1)
     (λ n. let h = tour_leaves d 0 1 t.children n in simp (left_append, sum_by-append, sum_by-cons) (omega arith))
 
-pub tour_visits_brothers : (d : Direction) (parent position : ℕ) (f : Forest) → tour d parent position f ≡ flat (visit d parent) (inner_children d position f)
+pub tour_visits_brothers : (d : Direction) (parent position : ℕ) (f : Forest) → tour d parent position f ≡ flat_map (visit d parent) (inner_children d position f)
 tour_visits_brothers d parent position none = refl
 tour_visits_brothers d parent position (brother n s zero below rest) = tour_visits_brothers d parent (suc position) rest
 tour_visits_brothers d parent position (brother n s (suc p) below rest) =

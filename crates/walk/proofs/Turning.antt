@@ -8,15 +8,15 @@ use Rattle.trees.specs.declared.node.Node.{Node}
 use Rattle.trees.specs.Trees.{Forest, none, brother, Tree, numbers, Derived, Apart, Stands}
 use Rattle.trees.specs.Laws.{ChildAmong, Child}
 use Rattle.trees.specs.Checking.{children_symbols}
-use Rattle.trees.proofs.Lists.{apart_left, apart_right, never_both}
+use Rattle.trees.proofs.Lists.{apart_left, apart_right, never_both, in_left, in_right, in_either, apart_append}
 use Rattle.trees.proofs.Parents.{parent_is_unique}
 use Rattle.walk.specs.Walks.{Step, enter, leave, inners, joined, tour, walk, Sooner}
 use Rattle.walk.specs.Turns.{Earlier, HasItsSteps, WalkHasItsSteps, InTurn, WalkGoesInTurn}
-use Rattle.walk.proofs.Members.{in_left, in_right, in_either, joined_first, joined_second, joined_either}
+use Rattle.walk.proofs.Members.{joined_first, joined_second, joined_either}
 use Rattle.walk.proofs.Children.{nothing_derived}
 use Rattle.walk.proofs.Tours.{inners_are_numbers}
 use Rattle.walk.proofs.Places.{child_is_below}
-use Rattle.walk.proofs.Sequence.{ComesBefore, before_left, before_across, before_first, before_second, Distinct, distinct_append, distinct_joined, one_way, earlier, comes_before}
+use Rattle.walk.proofs.Sequence.{ComesBefore, before_left, before_across, before_first, before_second, apart_joined, one_way, earlier, comes_before}
 
 -- terminals have no children
 abbrev Leafy : Forest → Type 0
@@ -311,17 +311,17 @@ step_node d parent k f s m =
       | inr e ↦ subst (λ w. node_of w ∈ numbers f) (sym e.2) (inners_are_numbers f e.0 e.1)
     ]
 
-tour_distinct : (d : Direction) (parent k : ℕ) (f : Forest) → Apart (numbers f) → Distinct (tour d parent k f)
-tour_distinct d parent k none o = tt
-tour_distinct d parent k (brother b y zero below rest) o = tour_distinct d parent (suc k) rest (apart_right (numbers below) (numbers rest) o.1)
-tour_distinct d parent k (brother b y (suc p) below rest) o =
-    distinct_joined d (visited d parent k b below) (tour d parent (suc k) rest) (
+tour_apart : (d : Direction) (parent k : ℕ) (f : Forest) → Apart (numbers f) → Apart (tour d parent k f)
+tour_apart d parent k none o = tt
+tour_apart d parent k (brother b y zero below rest) o = tour_apart d parent (suc k) rest (apart_right (numbers below) (numbers rest) o.1)
+tour_apart d parent k (brother b y (suc p) below rest) o =
+    apart_joined d (visited d parent k b below) (tour d parent (suc k) rest) (
       (λ m. elim (in_either (tour d b 1 below) (leave b ∷ []) _ m)
           [ inl i ↦ not_below _ i refl | inr i ↦ elim i [ inl e ↦ (let z : ◌≡◌ {A = ℕ} 0 1 = cc e in omega arith) | inr z ↦ z ] ]),
-      distinct_append (tour d b 1 below) (leave b ∷ []) (tour_distinct d b 1 below (apart_left (numbers below) (numbers rest) o.1)) (λ m. m, tt)
+      apart_append (tour d b 1 below) (leave b ∷ []) (tour_apart d b 1 below (apart_left (numbers below) (numbers rest) o.1)) (λ m. m, tt)
           (λ s m n. elim n [ inl e ↦ not_below s m (ap node_of e) | inr z ↦ z ]),
     )
-    (tour_distinct d parent (suc k) rest (apart_right (numbers below) (numbers rest) o.1))
+    (tour_apart d parent (suc k) rest (apart_right (numbers below) (numbers rest) o.1))
     (λ s m n. beside s (step_node d parent (suc k) rest s n) (visit_node s m))
   where
     not_below : (s : Step) → s ∈ tour d b 1 below → node_of s ≡ b → ⊥
@@ -363,9 +363,9 @@ module _ (g : Grammar) (nodes : List Node) (t : Tree) (stands : Stands g nodes t
   in_walk : (s u : Step) → ComesBefore below_root s u → Earlier (walk d t) s u
   in_walk s u h = earlier (walk d t) s u (before_left s u below_root (leave 0 ∷ []) h)
 
-  walk_distinct : Distinct (walk d t)
-  walk_distinct =
-      distinct_append below_root (leave 0 ∷ []) (tour_distinct d 0 1 t.children stands.once.1) (λ m. m, tt)
+  walk_apart : Apart (walk d t)
+  walk_apart =
+      apart_append below_root (leave 0 ∷ []) (tour_apart d 0 1 t.children stands.once.1) (λ m. m, tt)
       (λ s m n. elim n [
         | inl e ↦ stands.once.0 (subst (λ w. w ∈ numbers t.children) (ap node_of e) (step_node d 0 1 t.children s m))
         | inr z ↦ z
@@ -387,7 +387,7 @@ module _ (g : Grammar) (nodes : List Node) (t : Tree) (stands : Stands g nodes t
     ];
     across = λ x j n k o h u m i s.
         in_walk _ _ (brothers_in_turn d 0 1 t.children stands.once x j n k o (inner x j n h m) (inner x k o u i) s);
-    once = λ s u p q. one_way s u (walk d t) walk_distinct (comes_before (walk d t) s u p) (comes_before (walk d t) u s q);
+    once = λ s u p q. one_way s u (walk d t) walk_apart (comes_before (walk d t) s u p) (comes_before (walk d t) u s q);
   }
 
 pub walk_has_its_steps : WalkHasItsSteps

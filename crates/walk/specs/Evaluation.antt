@@ -1,13 +1,12 @@
 -- What passes come to: values that fulfil the rules, and the only ones.
 use Rattle.std.specs.Prelude.{◌≡◌, ℕ, zero, suc, ◌-◌, ◌*◌, ◌<◌, ◌≤◌, min, Bool, true, false, cond, ◌||◌, ◌≢◌, List, [], ◌∷◌, ◌++◌, length, Some, None, Option, ◌==◌}
-use Rattle.std.specs.List.{slice_get}
+use Rattle.std.specs.List.{flat_map, slice_get}
 use Rattle.refusal.specs.declared.Site.{Site}
 use Rattle.grammar.specs.declared.production.Occurrence.{Occurrence}
 use Rattle.grammar.specs.Members.{◌∈◌}
 use Rattle.grammar.specs.Grammar.{Grammar, Production, Rule, given}
 use Rattle.walk.specs.Values.{Meaning}
 use Rattle.walk.specs.Programs.{Store, Assignment, Fulfilled, Executes}
-use Rattle.walk.specs.Walks.{flat}
 use Rattle.walk.specs.Instances.{IsInstance, kind_of, cell_of}
 use Rattle.walk.specs.Passes.{Task, rule_at, pass_program, RuleSets, number_at}
 
@@ -101,7 +100,7 @@ least_taking number a (r ∷ rs) =
 
 -- the first pass with a rule that takes attribute a, if there is one
 abbrev pub first_taking : Grammar → (ℕ → ℕ) → ℕ → Option ℕ
-first_taking g number a = least_taking number a (flat (λ p. p.rules) g.productions)
+first_taking g number a = least_taking number a (flat_map (λ p. p.rules) g.productions)
 
 -- of the finished passes, those before a pass
 abbrev pub before_pass : Option ℕ → ℕ → ℕ

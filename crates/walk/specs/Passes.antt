@@ -1,5 +1,6 @@
 -- The assignments of a pass: what its steps set, and in which order.
-use Rattle.std.specs.Prelude.{◌≡◌, ℕ, zero, suc, ◌<◌, ◌≤◌, Bool, true, false, ◌&&◌, List, [], ◌∷◌, ◌++◌, map, length, Some, None, filter, Option, ◌==◌}
+use Rattle.std.specs.Prelude.{◌≡◌, ℕ, ◌<◌, ◌≤◌, Bool, true, false, ◌&&◌, List, [], ◌∷◌, ◌++◌, map, length, Some, None, filter, Option, ◌==◌}
+use Rattle.std.specs.List.{range_with_len, flat_map}
 use Rattle.refusal.specs.declared.Site.{Site}
 use Rattle.plans.specs.declared.Direction.{Direction}
 use Rattle.grammar.specs.declared.vocabulary.AttributeKind.{AttributeKind}
@@ -15,17 +16,12 @@ use Rattle.trees.specs.Checking.{node}
 use Rattle.trees.specs.Trees.{Tree, Stands}
 use Rattle.walk.specs.Values.{Meaning, rule_value}
 use Rattle.walk.specs.Programs.{Assignment, Ordered, Untouched}
-use Rattle.walk.specs.Walks.{Step, enter, leave, walk, flat}
+use Rattle.walk.specs.Walks.{Step, enter, leave, walk}
 use Rattle.walk.specs.Instances.{rules_at, instance_at, arguments_at, Sets, cell_of}
-
--- so many numbers, from the first on
-abbrev pub counted : ℕ → ℕ → List ℕ
-counted first zero = []
-counted first (suc count) = first ∷ counted (suc first) count
 
 -- the attributes of a symbol, in number order
 abbrev pub attributes_of : Vocabulary → ℕ → List ℕ
-attributes_of v s = counted (symbol v s).first (symbol v s).count
+attributes_of v s = range_with_len (symbol v s).first (symbol v s).count
 
 abbrev pub inherited : AttributeKind → Bool
 inherited Inherited = true
@@ -71,7 +67,7 @@ module _ {V : Type 0} (m : Meaning V) (g : Grammar) (nodes : List Node) where
 
     -- what some steps set, one after the other
     abbrev pub program : List Step → List (Assignment V)
-    program steps = flat settings steps
+    program steps = flat_map settings steps
 
 -- A lawful grammar with a valid numbering for the directions of a plan, and a row of nodes that holds one of its derivation trees.
 pub record Task : Type 0 where

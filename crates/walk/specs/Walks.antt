@@ -1,5 +1,6 @@
 -- The walk of a derivation tree in a direction: the steps of a pass over its inner nodes.
 use Rattle.std.specs.Prelude.{◌≡◌, ℕ, zero, suc, ◌+◌, ◌*◌, ◌<◌, true, List, [], ◌∷◌, ◌++◌, map, length, count_by, nat_eq}
+use Rattle.std.specs.List.{flat_map}
 use Rattle.plans.specs.declared.Direction.{Direction}
 use Rattle.plans.specs.declared.Direction.TheVariants.{Left, Right}
 use Rattle.grammar.specs.Members.{◌∈◌}
@@ -51,11 +52,6 @@ abbrev pub left : List Step → List ℕ
 left [] = []
 left (enter parent position child ∷ steps) = left steps
 left (leave n ∷ steps) = n ∷ left steps
-
--- the lists of all members, one after the other
-abbrev pub flat : {A B : Type 0} → (A → List B) → List A → List B
-flat f [] = []
-flat f (x ∷ xs) = f x ++ flat f xs
 
 -- an inner child of a node: its position, its number and what is below it
 pub record InnerChild : Type 0 where
@@ -119,7 +115,7 @@ WalkLeavesEachOnce = (d : Direction) (t : Tree) → Apart (tree_numbers t) → O
 -- Brothers are visited whole, one after the other, in the order of the direction.
 abbrev pub BrothersAreVisitedInOrder : Type 0
 BrothersAreVisitedInOrder = (d : Direction) (parent position : ℕ) (f : Forest)
-    → (tour d parent position f ≡ flat (visit d parent) (inner_children d position f))
+    → (tour d parent position f ≡ flat_map (visit d parent) (inner_children d position f))
     × InDirection d (map (λ c. c.position) (inner_children d position f))
 
 -- What is below a node is walked between its enter, at its position of its parent, and its leave.
