@@ -1,5 +1,5 @@
 -- Start and width of S wait for each other behind bars of both directions, so no pass has them.
-use Rattle.std.proofs.Common.{◌≡◌, ℕ, zero, suc, ◌+◌, ◌<◌, ◌≤◌, Bool, false, ◌&&◌, List, [], ◌∷◌, length, get_or, sym, refl, ap, ◌∙◌, inl, inr, ⊎_elim, arith, lit≤}
+use Rattle.std.proofs.Common.{◌≡◌, ℕ, zero, suc, ◌<◌, ◌≤◌, Bool, false, ◌&&◌, List, [], ◌∷◌, length, get_or, sym, refl, ap, ◌∙◌, inl, inr, ⊎_elim, arith, lit≤}
 use Rattle.std.proofs.lemmas.Bool.{cases_lt, lt-ltb, lt-leb}
 use Rattle.bitset.specs.Sets.{has, many}
 use Rattle.plans.specs.declared.Direction.{Direction}
@@ -137,7 +137,7 @@ unnumbered_set ds numbers passes unnumbered numbered = (seven, ap (λ n. many (h
     places (suc (suc (suc p))) = numbered.set (suc (suc (suc p))) ∙ wants_no_more p _ ∙ sym (seven_past p)
 
     seven : unnumbered ≡ 7
-    seven = same_places (unnumbered + 7) unnumbered 7 (omega arith) (omega arith) places
+    seven = same_places unnumbered 7 places
 
 pub numbers_S : SNumbers grammar_S
 numbers_S = record {

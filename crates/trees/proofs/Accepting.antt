@@ -10,14 +10,14 @@ use Rattle.trees.specs.declared.node.Node.{Node}
 use Rattle.trees.specs.Checking.{node, fits, children_symbols, children, subtree, all_reached, then_all}
 use Rattle.trees.specs.Trees.{Forest, none, brother, Tree, numbers, tree_numbers, tree_depth, Holds, Stands}
 use Rattle.trees.specs.Theorems.{AcceptedHoldsATree, TreesAreAccepted, TreeIsUnique}
-use Rattle.trees.proofs.Outcomes.{not_refused, test_held}
+use Rattle.trees.proofs.Outcomes.{test_held}
 use Rattle.trees.proofs.Marks.{reach, Fresh, apart_from_fresh, fresh_from_apart, reached_or_marked, reached_is_marked, none_reached}
 use Rattle.trees.proofs.Growing.{subtree_grown, children_go}
 
 module _ (g : Grammar) (nodes : List Node) where
   all_held : (r : Result (List Bool) Refusal) → then_all g nodes r ≡ Ok tt → (s : List Bool) × (r ≡ Ok s) × (all_reached 0 (length nodes) s ≡ Ok tt)
   all_held (Ok s) e = (s, refl, e)
-  all_held (Err d) e = absurd (not_refused e)
+  all_held (Err d) e = absurd cc
 
   all_marked : (n count : ℕ) (s : List Bool) → all_reached n count s ≡ Ok tt → (m : ℕ) → n ≤ m → m < n + count → get_or s m false ≡ true
   all_marked n zero s e m low high = absurd (omega arith)

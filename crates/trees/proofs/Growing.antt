@@ -5,7 +5,7 @@ use Rattle.grammar.specs.Grammar.{Grammar}
 use Rattle.trees.specs.declared.node.Node.{Node}
 use Rattle.trees.specs.Checking.{node, fits, children_symbols, and_then, children, subtree}
 use Rattle.trees.specs.Trees.{Forest, none, brother, numbers, depth, Derived, Holds}
-use Rattle.trees.proofs.Outcomes.{not_refused, same_value, test_held, test_failed, both_held}
+use Rattle.trees.proofs.Outcomes.{test_held, test_failed, both_held}
 use Rattle.trees.proofs.Marks.{reach, Fresh, reach_append, fresh_append, fresh_left, fresh_right}
 
 -- brothers that are checked, from the marks before to the marks after
@@ -50,7 +50,7 @@ module _ (g : Grammar) (nodes : List Node) (few : length nodes ≤ 4096) where
   unfolding children
   children_grown room below [] parent holder index s s' e =
       let t = test_held (eqb index 0) _ _ e in
-      record { forest = none; holds = eqb-true index 0 t.0; derived = tt; shallow = omega arith; fresh = tt; marks = sym (same_value t.1) }
+      record { forest = none; holds = eqb-true index 0 t.0; derived = tt; shallow = omega arith; fresh = tt; marks = cc (t.1) }
   children_grown room below (x ∷ xs) parent holder index s s' e =
       let t = test_failed (eqb index 0) _ _ e in
       let u = test_failed (leb (length nodes) index || get_or s index false) _ _ t.1 in
@@ -62,7 +62,7 @@ module _ (g : Grammar) (nodes : List Node) (few : length nodes ≤ 4096) where
 
   pub subtree_grown : (room n x : ℕ) (s s' : List Bool) → subtree g nodes room n x s ≡ Ok s' → Subtree g nodes room n x s s'
   unfolding subtree
-  subtree_grown zero n x s s' e = absurd (not_refused e)
+  subtree_grown zero n x s s' e = absurd cc
   subtree_grown (suc room) n x s s' e =
       let p = (node nodes n).production in
       let t = test_held (eqb (node nodes n).symbol x && fits g x p) _ _ e in

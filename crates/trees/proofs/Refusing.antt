@@ -10,7 +10,6 @@ use Rattle.trees.specs.declared.node.Node.{Node}
 use Rattle.trees.specs.Checking.{node, children_symbols, subtree, all_reached, then_all}
 use Rattle.trees.specs.Trees.{Forest, none, brother, numbers, Derived, Holds}
 use Rattle.trees.specs.Faults.{link, wanted, Leads, Stray, Fault, RefusalNamesAFault}
-use Rattle.trees.proofs.Outcomes.{not_refused}
 use Rattle.trees.proofs.Lists.{in_left, in_right}
 use Rattle.trees.proofs.Marks.{Fresh, none_reached, reached_is_marked}
 use Rattle.trees.proofs.Growing.{subtree_grown}
@@ -74,7 +73,7 @@ module _ (g : Grammar) (nodes : List Node) where
   missing_at n count s e false t later k = let same : BadLink n ≡ e = cc in (n, omega arith, t, same)
 
   missing : (n count : ℕ) (s : List Bool) (e : Refusal) → all_reached n count s ≡ Err e → Missing (n + count) s e
-  missing n zero s e h = absurd (not_refused (sym h))
+  missing n zero s e h = absurd cc
   missing n (suc count) s e h = missing_at n count s e (get_or s n false) refl (missing (suc n) count s e) h
 
   no_marks : Marks g nodes [] (replicate 4096 false)

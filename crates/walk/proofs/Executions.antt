@@ -1,5 +1,5 @@
 -- Straight-line programs: what their execution fulfils, and that nothing else would.
-use Rattle.std.proofs.Common.{◌≡◌, ℕ, ◌<◌, ◌⊎◌, List, [], ◌∷◌, ◌++◌, length, set, Some, None, Option, sym, refl, ap, ◌∙◌, subst, inl, inr, append-nil, arith, length-set}
+use Rattle.std.proofs.Common.{◌≡◌, ℕ, ◌<◌, ◌⊎◌, List, [], ◌∷◌, ◌++◌, length, set, Some, None, Option, sym, refl, ap, ◌∙◌, subst, inl, inr, append-nil, length-set}
 use Rattle.std.proofs.lemmas.Bool.{cases_eq}
 use Rattle.std.specs.List.{slice_get}
 use Rattle.refusal.specs.declared.Site.{Site}
@@ -115,12 +115,9 @@ beginnings_likewise V done left o =
     let first = beginning_is_ordered done left o in
     (first, execution_fulfils V done first, fulfilment_is_unique V done first)
 
-some_is_not_none : {A : Type 0} {x : A} → Some x ≡ None → ⊥
-some_is_not_none e = let z : ◌≡◌ {A = ℕ} 0 1 = cc in omega arith
-
 pub execution_stops_at_the_undefined : (V : Type 0) → ExecutionStopsAtTheUndefined V
 execution_stops_at_the_undefined V [] s =
-    record { done = []; left = []; split = refl; executes = refl; whole = λ e. refl; stops = λ i e. absurd (some_is_not_none (sym e)) }
+    record { done = []; left = []; split = refl; executes = refl; whole = λ e. refl; stops = λ i e. cc }
 execution_stops_at_the_undefined V (a ∷ rest) s = by_outcome (outcome (slice_get s) a) refl (λ v. execution_stops_at_the_undefined V rest (set s a.target v))
   where
     -- what the execution leaves, by the outcome of the first assignment
@@ -135,7 +132,7 @@ execution_stops_at_the_undefined V (a ∷ rest) s = by_outcome (outcome (slice_g
       left = a ∷ rest;
       split = refl;
       executes = refl;
-      whole = λ p. absurd (some_is_not_none p);
+      whole = λ p. cc;
       stops = λ i p. (a, rest, refl, cc, e);
     }
     by_outcome (Some v) e ih = record {

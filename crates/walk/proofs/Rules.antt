@@ -1,6 +1,6 @@
 -- The one rule of an instance.
 use Rattle.std.proofs.Common.{◌≡◌, ℕ, suc, ◌-◌, ◌<◌, ◌≤◌, Bool, true, false, eqb, ◌⊎◌, List, [], ◌∷◌, length, get_or, sym, refl, ap, ◌∙◌, subst, inl, inr, arith}
-use Rattle.std.proofs.lemmas.Bool.{both_ways, and_from, ltb-true, eqb-true, eq-eqb, cond-true, le-leb, lt-ltb}
+use Rattle.std.proofs.lemmas.Bool.{and_from, ltb-true, eqb-true, eq-eqb, cond-true, le-leb, lt-ltb}
 use Rattle.std.proofs.lemmas.List.{get_or-map}
 use Rattle.refusal.specs.declared.Site.{Site}
 use Rattle.grammar.specs.declared.vocabulary.SymbolKind.{SymbolKind}
@@ -30,15 +30,12 @@ use Rattle.walk.proofs.Occurrences.{HasProduction, with_number, with_inner, node
 defined_ways : (kind : AttributeKind) (position : ℕ) → defined_at kind position ≡ true → ((kind ≡ Synthesized) × (position ≡ 0)) ⊎ ((kind ≡ Inherited) × (1 ≤ position))
 defined_ways Inherited position h = inr (refl, ltb-true 0 position h)
 defined_ways Synthesized position h = inl (refl, eqb-true position 0 h)
-defined_ways Given position h = absurd (both_ways false refl h)
+defined_ways Given position h = absurd cc
 
 given_ways : (kind : AttributeKind) → given kind ≡ false → (kind ≡ Synthesized) ⊎ (kind ≡ Inherited)
 given_ways Inherited h = inr refl
 given_ways Synthesized h = inl refl
-given_ways Given h = absurd (both_ways true h refl)
-
-not_both : (kind : AttributeKind) → kind ≡ Synthesized → kind ≡ Inherited → ⊥
-not_both kind s i = let z : ◌≡◌ {A = ℕ} 0 1 = cc in omega arith
+given_ways Given h = absurd cc
 
 -- a rule among those of a node: the node has a production, the rule is one of it, and lawful there
 pub record RuleThere (g : Grammar) (nodes : List Node) (x : ℕ) (r : Rule) : Type 0 where
@@ -72,12 +69,12 @@ rules_set_instances g nodes t law st x r i s =
 pub synthesized_are_set_at_the_node : SynthesizedAreSetAtTheNode
 synthesized_are_set_at_the_node g nodes t law st x r i s synthesized = elim (target_ways g nodes t law st x r i s) [
   | inl w ↦ (ap (at_position nodes x) (sym w.1) ∙ ap (λ j. j.node) s.target, w.1)
-  | inr w ↦ absurd (not_both (kind_of g nodes i) synthesized w.0)
+  | inr w ↦ absurd (cc (synthesized, w.0))
 ]
 
 pub inherited_are_set_at_the_parent : InheritedAreSetAtTheParent
 inherited_are_set_at_the_parent g nodes t law st x r i s inherited = elim (target_ways g nodes t law st x r i s) [
-  | inl w ↦ absurd (not_both (kind_of g nodes i) w.0 inherited)
+  | inl w ↦ absurd (cc (w.0, inherited))
   | inr w ↦
       let h = rule_there g nodes t law st x r i s in
       subst (Child t x r.target.position) (ap (λ j. j.node) s.target) (occurrence_is_child g nodes t law st x s.in_row h.there r.target h.lawful.defines.0 w.1)
@@ -107,15 +104,15 @@ one_of (d ∷ rest) o one =
 -- what is not given stands at inner symbols
 inner_kind : (kind : SymbolKind) (starts : Bool) (k : AttributeKind) → may_stand kind starts k ≡ true → given k ≡ false → inner kind ≡ true
 inner_kind Inner starts k may free = refl
-inner_kind Terminal starts Inherited may free = absurd (both_ways false refl may)
-inner_kind Terminal starts Synthesized may free = absurd (both_ways false refl may)
-inner_kind Terminal starts Given may free = absurd (both_ways true free refl)
+inner_kind Terminal starts Inherited may free = absurd cc
+inner_kind Terminal starts Synthesized may free = absurd cc
+inner_kind Terminal starts Given may free = absurd cc
 
 none_inherited : (kind : SymbolKind) (k : AttributeKind) → may_stand kind true k ≡ true → k ≡ Inherited → ⊥
-none_inherited Inner Inherited may e = both_ways false refl may
-none_inherited Terminal Inherited may e = both_ways false refl may
-none_inherited kind Synthesized may e = not_both Synthesized refl e
-none_inherited kind Given may e = let z : ◌≡◌ {A = ℕ} 0 1 = cc in omega arith
+none_inherited Inner Inherited may e = cc
+none_inherited Terminal Inherited may e = cc
+none_inherited kind Synthesized may e = cc
+none_inherited kind Given may e = cc
 
 module _ (g : Grammar) (nodes : List Node) (t : Tree) (law : Lawful g) (st : Stands g nodes t) where
   module _ (i : Site) (is : IsInstance g nodes i) where

@@ -96,13 +96,13 @@ module _ (task : Task) where
 
 inherited_is : (kind : AttributeKind) → inherited kind ≡ true → kind ≡ Inherited
 inherited_is Inherited h = refl
-inherited_is Synthesized h = absurd (both_ways false refl h)
-inherited_is Given h = absurd (both_ways false refl h)
+inherited_is Synthesized h = absurd cc
+inherited_is Given h = absurd cc
 
 synthesized_is : (kind : AttributeKind) → synthesized kind ≡ true → kind ≡ Synthesized
-synthesized_is Inherited h = absurd (both_ways false refl h)
+synthesized_is Inherited h = absurd cc
 synthesized_is Synthesized h = refl
-synthesized_is Given h = absurd (both_ways false refl h)
+synthesized_is Given h = absurd cc
 
 -- a rule of the list that is the only one for its target is found
 rule_found : (rules : List Rule) (r : Rule) → r ∈ rules → ((q : Rule) → q ∈ rules → q.target ≡ r.target → q ≡ r) → rule_of rules r.target ≡ Some r

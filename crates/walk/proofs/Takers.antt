@@ -19,7 +19,7 @@ module _ (a : ℕ) where
     sets : rule.target.attribute ≡ b
 
   taken : (os : List Occurrence) → is_among a os ≡ true → (o : Occurrence) × (o ∈ os) × (o.attribute ≡ a)
-  taken [] e = absurd (both_ways false refl e)
+  taken [] e = absurd cc
   taken (o ∷ os) e = elim (or_cases (eqb o.attribute a) (is_among a os) e) [
     | inl h ↦ (o, inl refl, eqb-true o.attribute a h)
     | inr h ↦ let r = taken os h in (r.0, inr r.1, r.2)

@@ -317,7 +317,7 @@ tour_apart d parent k (brother b y zero below rest) o = tour_apart d parent (suc
 tour_apart d parent k (brother b y (suc p) below rest) o =
     apart_joined d (visited d parent k b below) (tour d parent (suc k) rest) (
       (λ m. elim (in_either (tour d b 1 below) (leave b ∷ []) _ m)
-          [ inl i ↦ not_below _ i refl | inr i ↦ elim i [ inl e ↦ (let z : ◌≡◌ {A = ℕ} 0 1 = cc e in omega arith) | inr z ↦ z ] ]),
+          [ inl i ↦ not_below _ i refl | inr i ↦ elim i [ inl e ↦ (cc e) | inr z ↦ z ] ]),
       apart_append (tour d b 1 below) (leave b ∷ []) (tour_apart d b 1 below (apart_left (numbers below) (numbers rest) o.1)) (λ m. m, tt)
           (λ s m n. elim n [ inl e ↦ not_below s m (ap node_of e) | inr z ↦ z ]),
     )
