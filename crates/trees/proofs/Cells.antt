@@ -1,20 +1,16 @@
 -- Every instance of a tree has a cell of its own.
-use Rattle.std.proofs.Common.{◌≡◌, ℕ, ◌+◌, ◌-◌, ◌*◌, ◌<◌, ◌≤◌, Bool, true, false, cond, not, ◌&&◌, eqb, List, [], ◌∷◌, refl, ap, ◌∙◌, inl, inr, arith}
-use Rattle.std.proofs.lemmas.Bool.{and_parts}
+use Rattle.std.proofs.Common.{◌≡◌, ℕ, ◌+◌, ◌-◌, ◌*◌, ◌<◌, ◌≤◌, true, List, [], ◌∷◌, ap, ◌∙◌, inl, inr, arith}
+use Rattle.std.proofs.lemmas.Bool.Decides.{nat_tests}
 use Rattle.grammar.specs.Members.{◌∈◌}
-use Rattle.grammar.specs.Grammar.{Grammar, symbol, is_symbol, is_inner, inner}
+use Rattle.grammar.specs.Grammar.{Grammar, symbol, is_symbol}
 use Rattle.trees.specs.declared.node.Node.{Node}
-use Rattle.trees.specs.Checking.{node, fits, is_terminal, is_production, children_symbols}
+use Rattle.trees.specs.Checking.{node, fits, children_symbols}
 use Rattle.trees.specs.Trees.{Forest, none, brother, Tree, numbers, tree_numbers, Derived, Holds, Stands}
 use Rattle.trees.specs.Laws.{CellsDiffer}
 use Rattle.trees.proofs.Lists.{in_either}
 
 fitting_symbol : (g : Grammar) (s p : ℕ) → fits g s p ≡ true → is_symbol g.vocabulary s ≡ true
-fitting_symbol g s p h = at (is_inner g.vocabulary s) refl h
-  where
-    at : (b : Bool) → is_inner g.vocabulary s ≡ b → cond b (is_production g s p) (is_terminal g s && eqb p 0) ≡ true → is_symbol g.vocabulary s ≡ true
-    at true e k = (and_parts (is_symbol g.vocabulary s) (inner (symbol g.vocabulary s).kind) e).0
-    at false e k = (and_parts (is_symbol g.vocabulary s) (not (is_inner g.vocabulary s)) (and_parts (is_terminal g s) (eqb p 0) k).0).0
+fitting_symbol g s p h = grind (arith, nat_tests)
 
 forest_symbols : (g : Grammar) (nodes : List Node) (f : Forest) (ss : List ℕ) (index : ℕ) → Derived g ss f → Holds nodes index f
     → (n : ℕ) → n ∈ numbers f → is_symbol g.vocabulary (node nodes n).symbol ≡ true

@@ -1,12 +1,13 @@
 -- The inner children of a node: their positions, and where they stand in the tree.
-use Rattle.std.proofs.Common.{◌≡◌, ℕ, zero, suc, ◌<◌, ◌≤◌, Bool, true, false, cond, ◌&&◌, eqb, List, [], ◌∷◌, ◌++◌, map, sym, refl, ap, ◌∙◌, subst, inl, inr, arith}
-use Rattle.std.proofs.lemmas.Bool.{false≢true, eqb-true, and_parts, cond-true, cond-false}
+use Rattle.std.proofs.Common.{◌≡◌, ℕ, zero, suc, ◌<◌, ◌≤◌, true, false, List, [], ◌∷◌, ◌++◌, map, sym, refl, ap, ◌∙◌, subst, inl, inr, arith}
+use Rattle.std.proofs.lemmas.Bool.{cond-true, cond-false}
+use Rattle.std.proofs.lemmas.Bool.Decides.{nat_tests}
 use Rattle.plans.specs.declared.Direction.{Direction}
 use Rattle.plans.specs.declared.Direction.TheVariants.{Left, Right}
 use Rattle.grammar.specs.Members.{◌∈◌}
 use Rattle.grammar.specs.Grammar.{Grammar, is_inner}
 use Rattle.trees.specs.declared.node.Node.{Node}
-use Rattle.trees.specs.Checking.{is_production, is_terminal, fits, children_symbols}
+use Rattle.trees.specs.Checking.{fits, children_symbols}
 use Rattle.trees.specs.Trees.{Forest, none, brother, Tree, depth, Derived, Stands}
 use Rattle.trees.specs.Laws.{Within, InTree, ChildAmong, Child}
 use Rattle.trees.proofs.Lists.{in_either}
@@ -111,18 +112,10 @@ derived_in_tree g nodes t st n s p cs (inr w) = derived_within g (children_symbo
 
 -- a node that has a production has an inner symbol, and no other node has
 pub fits_inner : (g : Grammar) (s p : ℕ) → fits g s (suc p) ≡ true → is_inner g.vocabulary s ≡ true
-fits_inner g s p fit = by_test (is_inner g.vocabulary s) fit
-  where
-    by_test : (b : Bool) → cond b (is_production g s (suc p)) (is_terminal g s && eqb (suc p) 0) ≡ true → b ≡ true
-    by_test true h = refl
-    by_test false h = absurd (omega (arith, eqb-true (suc p) 0 (and_parts (is_terminal g s) _ h).1))
+fits_inner g s p fit = grind (arith, nat_tests)
 
 fits_terminal : (g : Grammar) (s : ℕ) → fits g s 0 ≡ true → is_inner g.vocabulary s ≡ false
-fits_terminal g s fit = by_test (is_inner g.vocabulary s) fit
-  where
-    by_test : (b : Bool) → cond b (is_production g s 0) (is_terminal g s && eqb 0 0) ≡ true → b ≡ false
-    by_test true h = absurd (false≢true h)
-    by_test false h = refl
+fits_terminal g s fit = grind (arith, nat_tests)
 
 pub positions_by_symbols : (g : Grammar) (d : Direction) (position : ℕ) (ss : List ℕ) (f : Forest) → Derived g ss f
     → inner_positions g.vocabulary d position ss ≡ positions (inner_children d position f)

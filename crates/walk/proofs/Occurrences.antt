@@ -1,13 +1,14 @@
 -- The production of a node, and the instances that its occurrences stand for.
-use Rattle.std.proofs.Common.{◌≡◌, ℕ, zero, suc, ◌-◌, ◌<◌, ◌≤◌, Bool, true, false, cond, not, ◌&&◌, eqb, ◌⊎◌, List, length, get_or, sym, refl, ap, ◌∙◌, subst, inl, inr, arith}
+use Rattle.std.proofs.Common.{◌≡◌, ℕ, zero, suc, ◌-◌, ◌<◌, ◌≤◌, true, false, eqb, ◌⊎◌, List, length, get_or, sym, ap, ◌∙◌, subst, inl, inr, arith}
 use Rattle.std.proofs.lemmas.Bool.{both_ways, and_parts, cond-false, eqb-true, ne_eqb, leb-true}
+use Rattle.std.proofs.lemmas.Bool.Decides.{nat_tests}
 use Rattle.std.proofs.ByRecursion.{All-get_or}
 use Rattle.grammar.specs.declared.production.Occurrence.{Occurrence}
 use Rattle.grammar.specs.Members.{◌∈◌}
 use Rattle.grammar.specs.Grammar.{Grammar, Production, is_symbol, is_inner, symbol_at, occurs}
 use Rattle.grammar.specs.Lawful.{Lawful, LawfulProduction}
 use Rattle.trees.specs.declared.node.Node.{Node}
-use Rattle.trees.specs.Checking.{node, production, no_production, is_production, is_terminal, fits, children_symbols}
+use Rattle.trees.specs.Checking.{node, production, no_production, is_production, fits, children_symbols}
 use Rattle.trees.specs.Trees.{Tree, Stands}
 use Rattle.trees.specs.Laws.{Child}
 use Rattle.trees.proofs.Symbols.{child_has_its_symbol}
@@ -19,14 +20,7 @@ use Rattle.walk.proofs.Places.{positions_have_children, child_in_row, node_fits}
 
 -- what fits is a production of an inner symbol, or 0 at a terminal
 fitting : (g : Grammar) (s p : ℕ) → fits g s p ≡ true → (is_production g s p ≡ true) ⊎ ((is_inner g.vocabulary s ≡ false) × (is_symbol g.vocabulary s ≡ true) × (p ≡ 0))
-fitting g s p h = at (is_inner g.vocabulary s) refl h
-  where
-    at : (b : Bool) → is_inner g.vocabulary s ≡ b → cond b (is_production g s p) (is_terminal g s && eqb p 0) ≡ true
-        → (is_production g s p ≡ true) ⊎ ((is_inner g.vocabulary s ≡ false) × (is_symbol g.vocabulary s ≡ true) × (p ≡ 0))
-    at true e k = inl k
-    at false e k =
-        let parts = and_parts (is_terminal g s) (eqb p 0) k in
-        inr (e, (and_parts (is_symbol g.vocabulary s) (not (is_inner g.vocabulary s)) parts.0).0, eqb-true p 0 parts.1)
+fitting g s p h = grind (arith, nat_tests)
 
 -- a node with a production, and what that says
 pub record HasProduction (g : Grammar) (nodes : List Node) (x : ℕ) : Type 0 where

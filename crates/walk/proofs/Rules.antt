@@ -1,12 +1,12 @@
 -- The one rule of an instance.
 use Rattle.std.proofs.Common.{◌≡◌, ℕ, suc, ◌-◌, ◌<◌, ◌≤◌, Bool, true, false, eqb, ◌⊎◌, List, [], ◌∷◌, length, get_or, sym, refl, ap, ◌∙◌, subst, inl, inr, arith}
-use Rattle.std.proofs.lemmas.Bool.{and_from, ltb-true, eqb-true, eq-eqb, cond-true, le-leb, lt-ltb}
+use Rattle.std.proofs.lemmas.Bool.{and_from, eq-eqb, cond-true, le-leb, lt-ltb}
+use Rattle.std.proofs.lemmas.Bool.Decides.{nat_tests}
 use Rattle.std.proofs.lemmas.List.{get_or-map}
 use Rattle.refusal.specs.declared.Site.{Site}
 use Rattle.grammar.specs.declared.vocabulary.SymbolKind.{SymbolKind}
-use Rattle.grammar.specs.declared.vocabulary.SymbolKind.TheVariants.{Inner, Terminal}
 use Rattle.grammar.specs.declared.vocabulary.AttributeKind.{AttributeKind}
-use Rattle.grammar.specs.declared.vocabulary.AttributeKind.TheVariants.{Inherited, Synthesized, Given}
+use Rattle.grammar.specs.declared.vocabulary.AttributeKind.TheVariants.{Inherited, Synthesized}
 use Rattle.grammar.specs.declared.production.Occurrence.{Occurrence}
 use Rattle.grammar.specs.Members.{◌∈◌}
 use Rattle.grammar.specs.Grammar.{Grammar, Rule, Production, symbol, attribute, given, inner, is_attribute, symbol_at, defined_at}
@@ -28,14 +28,10 @@ use Rattle.walk.proofs.Occurrences.{HasProduction, with_number, with_inner, node
 
 -- what is defined is synthesized at the left side or inherited at the right side
 defined_ways : (kind : AttributeKind) (position : ℕ) → defined_at kind position ≡ true → ((kind ≡ Synthesized) × (position ≡ 0)) ⊎ ((kind ≡ Inherited) × (1 ≤ position))
-defined_ways Inherited position h = inr (refl, ltb-true 0 position h)
-defined_ways Synthesized position h = inl (refl, eqb-true position 0 h)
-defined_ways Given position h = absurd cc
+defined_ways kind position h = grind (arith, nat_tests)
 
 given_ways : (kind : AttributeKind) → given kind ≡ false → (kind ≡ Synthesized) ⊎ (kind ≡ Inherited)
-given_ways Inherited h = inr refl
-given_ways Synthesized h = inl refl
-given_ways Given h = absurd cc
+given_ways kind h = grind (arith, nat_tests)
 
 -- a rule among those of a node: the node has a production, the rule is one of it, and lawful there
 pub record RuleThere (g : Grammar) (nodes : List Node) (x : ℕ) (r : Rule) : Type 0 where
@@ -103,16 +99,10 @@ one_of (d ∷ rest) o one =
 
 -- what is not given stands at inner symbols
 inner_kind : (kind : SymbolKind) (starts : Bool) (k : AttributeKind) → may_stand kind starts k ≡ true → given k ≡ false → inner kind ≡ true
-inner_kind Inner starts k may free = refl
-inner_kind Terminal starts Inherited may free = absurd cc
-inner_kind Terminal starts Synthesized may free = absurd cc
-inner_kind Terminal starts Given may free = absurd cc
+inner_kind kind starts k may free = grind (arith, nat_tests)
 
 none_inherited : (kind : SymbolKind) (k : AttributeKind) → may_stand kind true k ≡ true → k ≡ Inherited → ⊥
-none_inherited Inner Inherited may e = cc
-none_inherited Terminal Inherited may e = cc
-none_inherited kind Synthesized may e = cc
-none_inherited kind Given may e = cc
+none_inherited kind k may e = grind (arith, nat_tests)
 
 module _ (g : Grammar) (nodes : List Node) (t : Tree) (law : Lawful g) (st : Stands g nodes t) where
   module _ (i : Site) (is : IsInstance g nodes i) where

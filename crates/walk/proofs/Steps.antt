@@ -2,9 +2,10 @@
 use Rattle.std.proofs.Common.{◌≡◌, ℕ, zero, suc, Bool, true, false, ◌&&◌, eqb, ◌⊎◌, List, [], ◌∷◌, map, Some, sym, refl, ap, ◌∙◌, subst, inl, inr, arith}
 use Rattle.std.specs.List.{range_with_len}
 use Rattle.std.proofs.lemmas.Bool.{cases_Bool, both_ways, and_parts, and_from, eqb-true, eq-eqb}
+use Rattle.std.proofs.lemmas.Bool.Decides.{nat_tests}
 use Rattle.refusal.specs.declared.Site.{Site}
 use Rattle.grammar.specs.declared.vocabulary.AttributeKind.{AttributeKind}
-use Rattle.grammar.specs.declared.vocabulary.AttributeKind.TheVariants.{Inherited, Synthesized, Given}
+use Rattle.grammar.specs.declared.vocabulary.AttributeKind.TheVariants.{Inherited, Synthesized}
 use Rattle.grammar.specs.Members.{◌∈◌}
 use Rattle.grammar.specs.Grammar.{Rule, symbol, attribute, given}
 use Rattle.grammar.specs.Lookup.{rule_of}
@@ -95,14 +96,10 @@ module _ (task : Task) where
     ]
 
 inherited_is : (kind : AttributeKind) → inherited kind ≡ true → kind ≡ Inherited
-inherited_is Inherited h = refl
-inherited_is Synthesized h = absurd cc
-inherited_is Given h = absurd cc
+inherited_is kind h = grind (arith, nat_tests)
 
 synthesized_is : (kind : AttributeKind) → synthesized kind ≡ true → kind ≡ Synthesized
-synthesized_is Inherited h = absurd cc
-synthesized_is Synthesized h = refl
-synthesized_is Given h = absurd cc
+synthesized_is kind h = grind (arith, nat_tests)
 
 -- a rule of the list that is the only one for its target is found
 rule_found : (rules : List Rule) (r : Rule) → r ∈ rules → ((q : Rule) → q ∈ rules → q.target ≡ r.target → q ≡ r) → rule_of rules r.target ≡ Some r
