@@ -1,9 +1,10 @@
 -- A row is accepted exactly when it holds a derivation tree, and it holds one at most.
-use Rattle.std.proofs.Common.{◌≡◌, ℕ, zero, suc, ◌+◌, ◌<◌, ◌≤◌, Bool, true, false, ◌&&◌, eqb, leb, List, ◌∷◌, length, get_or, set, replicate, Ok, Err, Result, sym, refl, ap, ◌∙◌, inl, inr, arith}
+use Rattle.std.proofs.Common.{◌≡◌, ℕ, zero, suc, ◌+◌, ◌<◌, ◌≤◌, Bool, true, false, ◌&&◌, eqb, leb, List, ◌∷◌, length, get_or, set, replicate, Ok, Result, sym, refl, ap, ◌∙◌, inl, inr, arith}
 use Rattle.std.specs.List.{AllByRecursion}
 use Rattle.std.proofs.lemmas.List.{length-replicate}
 use Rattle.std.proofs.ByRecursion.{All-append}
 use Rattle.std.proofs.lemmas.Bool.{eq-eqb, leb-true, le-leb, cond-true, and_parts, and_from, both_ways, cases_eq}
+use Rattle.std.proofs.lemmas.Bool.Decides.{nat_tests}
 use Rattle.refusal.specs.declared.Refusal.{Refusal}
 use Rattle.grammar.specs.Grammar.{Grammar}
 use Rattle.trees.specs.declared.node.Node.{Node}
@@ -16,8 +17,7 @@ use Rattle.trees.proofs.Growing.{subtree_grown, children_go}
 
 module _ (g : Grammar) (nodes : List Node) where
   all_held : (r : Result (List Bool) Refusal) → then_all g nodes r ≡ Ok tt → (s : List Bool) × (r ≡ Ok s) × (all_reached 0 (length nodes) s ≡ Ok tt)
-  all_held (Ok s) e = (s, refl, e)
-  all_held (Err d) e = absurd cc
+  all_held r e = grind (arith, nat_tests)
 
   all_marked : (n count : ℕ) (s : List Bool) → all_reached n count s ≡ Ok tt → (m : ℕ) → n ≤ m → m < n + count → get_or s m false ≡ true
   all_marked n zero s e m low high = absurd (omega arith)

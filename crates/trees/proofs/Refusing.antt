@@ -2,6 +2,7 @@
 use Rattle.std.proofs.Common.{◌≡◌, ℕ, zero, suc, ◌+◌, ◌<◌, ◌≤◌, Bool, true, false, cond, ◌&&◌, leb, List, [], ◌∷◌, length, get_or, set, replicate, Ok, Err, Result, sym, refl, ap, ◌∙◌, subst, inl, inr, arith}
 use Rattle.std.proofs.lemmas.List.{length-replicate}
 use Rattle.std.proofs.lemmas.Bool.{and_parts, and_from, leb-true, le-leb, both_ways}
+use Rattle.std.proofs.lemmas.Bool.Decides.{nat_tests}
 use Rattle.refusal.specs.declared.Refusal.{Refusal}
 use Rattle.refusal.specs.declared.Refusal.TheVariants.{NodeCount, BadLink}
 use Rattle.grammar.specs.Grammar.{Grammar}
@@ -69,8 +70,7 @@ module _ (g : Grammar) (nodes : List Node) where
 
   missing_at : (n count : ℕ) (s : List Bool) (e : Refusal) (b : Bool) → get_or s n false ≡ b → (all_reached (suc n) count s ≡ Err e → Missing (suc n + count) s e)
       → cond b (all_reached (suc n) count s) (Err (BadLink n)) ≡ Err e → Missing (n + suc count) s e
-  missing_at n count s e true t later k = let m = later k in (m.0, omega (arith, m.1), m.2, m.3)
-  missing_at n count s e false t later k = let same : BadLink n ≡ e = cc in (n, omega arith, t, same)
+  missing_at n count s e b t later k = grind (arith, nat_tests)
 
   missing : (n count : ℕ) (s : List Bool) (e : Refusal) → all_reached n count s ≡ Err e → Missing (n + count) s e
   missing n zero s e h = absurd cc

@@ -2,6 +2,7 @@
 use Rattle.std.proofs.Common.{◌≡◌, ℕ, zero, suc, ◌-◌, ◌*◌, ◌<◌, ◌≤◌, true, ◌≢◌, ◌⊎◌, List, length, Some, None, Option, sym, refl, ap, ◌∙◌, subst, inl, inr, arith}
 use Rattle.std.specs.List.{slice_get}
 use Rattle.std.proofs.lemmas.Bool.{cases_Bool, cases_lt, both_ways, and_from, lt-ltb, le-leb}
+use Rattle.std.proofs.lemmas.Bool.Decides.{nat_tests}
 use Rattle.std.proofs.lemmas.List.{get_or_past}
 use Rattle.refusal.specs.declared.Site.{Site}
 use Rattle.grammar.specs.Members.{◌∈◌}
@@ -163,8 +164,7 @@ evaluation_is_unique V m task finished l s t evaluated_s evaluated_t same_given 
     agree_up_to m task finished l s t evaluated_s evaluated_t same_given finished (omega arith)
 
 within_the_finished : (first : Option ℕ) (finished n : ℕ) → n ≤ before_pass first finished → n ≤ finished
-within_the_finished None finished n h = h
-within_the_finished (Some p) finished n h = omega arith
+within_the_finished first finished n h = grind (arith, nat_tests)
 
 -- what has a number before the first that takes an attribute does not take it
 before_the_first_taking : (g : Grammar) (number : ℕ → ℕ) (a b finished : ℕ) → Takes g a b → 1 ≤ number b

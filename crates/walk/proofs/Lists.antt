@@ -42,9 +42,9 @@ pub map-joined : {A B : Type 0} (f : A → B) (d : Direction) (xs ys : List A) �
 map-joined f Left xs ys = map-append f xs ys
 map-joined f Right xs ys = map-append f ys xs
 
-pub sumBy_joined : {A : Type 0} (f : A → ℕ) (d : Direction) (xs ys : List A) → sum_by f (joined d xs ys) ≡ sum_by f xs + sum_by f ys
-sumBy_joined f Left xs ys = sum_by-append f xs ys
-sumBy_joined f Right xs ys = omega (arith, sum_by-append f ys xs)
+pub sum_by-joined : {A : Type 0} (f : A → ℕ) (d : Direction) (xs ys : List A) → sum_by f (joined d xs ys) ≡ sum_by f xs + sum_by f ys
+sum_by-joined f Left xs ys = sum_by-append f xs ys
+sum_by-joined f Right xs ys = omega (arith, sum_by-append f ys xs)
 
 -- one number before a list: it counts where it is the number that is counted
 counts_first : (n : ℕ) (xs : List ℕ) → count_by (eqb n) (n ∷ xs) ≡ 1 + count_by (eqb n) xs

@@ -4,7 +4,6 @@ use Rattle.std.specs.List.{flat_map}
 use mathlib.Core.List.{append_cancel_right, nil≢cons, cons≢nil, head-eq_of_cons-eq, tail-eq_of_cons-eq}
 use Rattle.std.proofs.lemmas.Bool.Decides.{nat_tests}
 use Rattle.plans.specs.declared.Direction.{Direction}
-use Rattle.plans.specs.declared.Direction.TheVariants.{Left, Right}
 use Rattle.grammar.specs.Members.{◌∈◌}
 use Rattle.grammar.specs.Grammar.{Grammar}
 use Rattle.trees.specs.declared.node.Node.{Node}
@@ -22,26 +21,21 @@ use Rattle.walk.proofs.Tours.{tour_visits_brothers}
 use Rattle.walk.proofs.Places.{children_stand_at_their_positions}
 
 to_come_first : (d : Direction) (k : ℕ) → 1 ≤ k → to_come d 0 k ≡ true
-to_come_first Left k h = grind (arith, nat_tests)
-to_come_first Right k h = refl
+to_come_first d k h = grind (arith, nat_tests)
 
 to_come_self : (d : Direction) (k : ℕ) → 1 ≤ k → to_come d k k ≡ false
-to_come_self Left k h = grind (arith, nat_tests)
-to_come_self Right k h = grind (arith, nat_tests)
+to_come_self d k h = grind (arith, nat_tests)
 
 to_come_sooner : (d : Direction) (j k : ℕ) → Sooner d j k → to_come d j k ≡ true
-to_come_sooner Left j k h = grind (arith, nat_tests)
-to_come_sooner Right j k h = grind (arith, nat_tests)
+to_come_sooner d j k h = grind (arith, nat_tests)
 
 -- what is behind a position that is to come is to come too
 to_come_behind : (d : Direction) (last j k : ℕ) → to_come d last j ≡ true → Sooner d j k → to_come d last k ≡ true
-to_come_behind Left last j k h o = grind (arith, nat_tests)
-to_come_behind Right last j k h o = grind (arith, nat_tests)
+to_come_behind d last j k h o = grind (arith, nat_tests)
 
 -- what is not to come any more does not come again later
 to_come_no_more : (d : Direction) (last j k : ℕ) → 1 ≤ j → to_come d last j ≡ true → to_come d last k ≡ false → to_come d j k ≡ false
-to_come_no_more Left last j k h p q = grind (arith, nat_tests)
-to_come_no_more Right last j k h p q = grind (arith, nat_tests)
+to_come_no_more d last j k h p q = grind (arith, nat_tests)
 
 -- the children that are still to be visited
 abbrev remaining : Direction → ℕ → List InnerChild → List InnerChild

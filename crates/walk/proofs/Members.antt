@@ -20,10 +20,10 @@ module _ {A : Type 0} where
   joined_either Left xs ys x m = in_either xs ys x m
   joined_either Right xs ys x m = elim (in_either ys xs x m) [ inl h ↦ inr h | inr h ↦ inl h ]
 
-  pub getD_in : (xs : List A) (i : ℕ) (d : A) → i < length xs → get_or xs i d ∈ xs
-  getD_in [] i d l = absurd (omega arith)
-  getD_in (x ∷ xs) zero d l = inl refl
-  getD_in (x ∷ xs) (suc i) d l = inr (getD_in xs i d (omega arith))
+  pub get_or_in : (xs : List A) (i : ℕ) (d : A) → i < length xs → get_or xs i d ∈ xs
+  get_or_in [] i d l = absurd (omega arith)
+  get_or_in (x ∷ xs) zero d l = inl refl
+  get_or_in (x ∷ xs) (suc i) d l = inr (get_or_in xs i d (omega arith))
 
   pub member_splits : (xs : List A) (x : A) → x ∈ xs → (before : List A) × (behind : List A) × (xs ≡ before ++ x ∷ behind)
   member_splits [] x m = absurd m

@@ -14,7 +14,7 @@ use Rattle.trees.specs.Laws.{Child}
 use Rattle.trees.proofs.Symbols.{child_has_its_symbol}
 use Rattle.walk.specs.Positions.{at_position}
 use Rattle.walk.specs.Instances.{rules_at, instance_at, IsInstance}
-use Rattle.walk.proofs.Members.{getD_in}
+use Rattle.walk.proofs.Members.{get_or_in}
 use Rattle.walk.proofs.Owners.{named, owned_by}
 use Rattle.walk.proofs.Places.{positions_have_children, child_in_row, node_fits}
 
@@ -40,7 +40,7 @@ has_production g nodes x law h =
     let some : eqb p 0 ≡ false = ne_eqb p 0 (λ z. omega (arith, bounds.0)) in
     record {
       some = λ z. omega (arith, bounds.0);
-      in_grammar = getD_in g.productions (p - 1) no_production within;
+      in_grammar = get_or_in g.productions (p - 1) no_production within;
       lawful = All-get_or (LawfulProduction g.vocabulary) g.productions (p - 1) no_production within law.productions;
       left = eqb-true _ _ parts.1;
       right = cond-false _ _ _ some;

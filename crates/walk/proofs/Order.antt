@@ -1,9 +1,9 @@
 -- The order of a pass: what a rule takes is set at an earlier step.
 use Rattle.std.proofs.Common.{◌≡◌, ℕ, ◌≤◌, List, ◌∷◌, ◌++◌, length, sym, refl, ap, ◌∙◌, subst, subst₂, inl, inr, arith}
-use Rattle.std.proofs.lemmas.Bool.{cases_lt, eqb-false, ltb-false}
+use Rattle.std.proofs.lemmas.Bool.{eqb-false, ltb-false}
+use Rattle.std.proofs.lemmas.Bool.Decides.{nat_tests}
 use Rattle.refusal.specs.declared.Site.{Site}
 use Rattle.plans.specs.declared.Direction.{Direction}
-use Rattle.plans.specs.declared.Direction.TheVariants.{Left, Right}
 use Rattle.grammar.specs.declared.production.Occurrence.{Occurrence}
 use Rattle.grammar.specs.Members.{◌∈◌}
 use Rattle.grammar.specs.Grammar.{Rule, defined_at}
@@ -32,8 +32,7 @@ use Rattle.walk.proofs.Turning.{walk_has_its_steps, walk_goes_in_turn}
 use Rattle.walk.proofs.OrderedParts.{Undisturbed, ordered_map, ordered_flat}
 
 not_ahead : (d : Direction) (j k : ℕ) → 1 ≤ j → 1 ≤ k → (Ahead d j k → ⊥) → Sooner d j k
-not_ahead Left j k low low' h = elim (cases_lt j k) [ inl l ↦ l | inr l ↦ absurd (h (low', l)) ]
-not_ahead Right j k low low' h = elim (cases_lt k j) [ inl l ↦ l | inr l ↦ absurd (h (low, l)) ]
+not_ahead d j k low low' h = grind (arith, nat_tests)
 
 module _ (task : Task) (pass : ℕ) (planned : pass ≤ length task.directions) (steps : List Step) (turn : InTurn (direction task.directions pass) task.tree steps) where
   -- a rule at a node, one of its arguments, and the rule that sets that argument, both for the pass

@@ -20,7 +20,7 @@ use Rattle.trees.proofs.Symbols.{child_has_its_symbol}
 use Rattle.trees.proofs.Parents.{every_node_has_a_parent, parent_is_unique}
 use Rattle.walk.specs.Positions.{at_position}
 use Rattle.walk.specs.Instances.{rules_at, instance_at, Sets, HasOneRule, IsInstance, kind_of, EachInstanceHasOneRule, RulesSetInstances, SynthesizedAreSetAtTheNode, InheritedAreSetAtTheParent, ArgumentsAreInstances}
-use Rattle.walk.proofs.Members.{getD_in, from_map}
+use Rattle.walk.proofs.Members.{get_or_in, from_map}
 use Rattle.walk.proofs.Selections.{member_place}
 use Rattle.walk.proofs.Owners.{owns}
 use Rattle.walk.proofs.Places.{children_stand_at_their_positions, in_row}
@@ -89,7 +89,7 @@ one_of [] o one = absurd (omega (arith, one.within))
 one_of (d ∷ rest) o one =
     let rules = d ∷ rest in (
       get_or rules one.place d,
-      getD_in rules one.place d one.within,
+      get_or_in rules one.place d one.within,
       sym (get_or-map target rules one.place d o one.within) ∙ one.sets,
       λ q m e.
           let h = member_place rules q d m in

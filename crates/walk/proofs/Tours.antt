@@ -11,7 +11,7 @@ use Rattle.trees.specs.Trees.{Forest, none, brother, numbers, Derived, Apart}
 use Rattle.trees.specs.Laws.{Within, ChildAmong}
 use Rattle.trees.proofs.Lists.{apart_left, apart_right, never_both, in_left, in_right, in_either, apart_append}
 use Rattle.walk.specs.Walks.{Step, enter, leave, inners, joined, tour, entered, left, inner_children, visit, Inside, WalkLength, WalkEntersEachOnce, WalkLeavesEachOnce, BrothersAreVisitedInOrder, WalkNests}
-use Rattle.walk.proofs.Lists.{length-joined, flat_joined, sumBy_joined, once_each_by_counts, inside_self, inside_left, inside_right, inside_first, inside_second}
+use Rattle.walk.proofs.Lists.{length-joined, flat_joined, sum_by-joined, once_each_by_counts, inside_self, inside_left, inside_right, inside_first, inside_second}
 use Rattle.walk.proofs.Children.{nothing_derived, positions_in_direction}
 
 tour_length : (d : Direction) (parent position : ℕ) (f : Forest) → length (tour d parent position f) ≡ 2 * length (inners f)
@@ -72,7 +72,7 @@ tour_enters d parent position (brother m s zero below rest) n = tour_enters d pa
 tour_enters d parent position (brother m s (suc p) below rest) n =
     let under = tour_enters d m 1 below n in
     let beside = tour_enters d parent (suc position) rest n in
-    simp (entered_joined, entered_append, sumBy_joined, sum_by-cons, sum_by-append) (omega arith)
+    simp (entered_joined, entered_append, sum_by-joined, sum_by-cons, sum_by-append) (omega arith)
 
 tour_leaves : (d : Direction) (parent position : ℕ) (f : Forest) (n : ℕ) → count_by (eqb n) (left (tour d parent position f)) ≡ count_by (eqb n) (inners f)
 tour_leaves d parent position none n = refl
@@ -80,7 +80,7 @@ tour_leaves d parent position (brother m s zero below rest) n = tour_leaves d pa
 tour_leaves d parent position (brother m s (suc p) below rest) n =
     let under = tour_leaves d m 1 below n in
     let beside = tour_leaves d parent (suc position) rest n in
-    simp (left_joined, left_append, sumBy_joined, sum_by-cons, sum_by-append) (omega arith)
+    simp (left_joined, left_append, sum_by-joined, sum_by-cons, sum_by-append) (omega arith)
 
 pub walk_enters_each_once : WalkEntersEachOnce
 walk_enters_each_once d t a = once_each_by_counts _ (inners t.children) (inners_apart t.children a.1)

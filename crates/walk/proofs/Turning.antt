@@ -1,5 +1,6 @@
 -- The steps of a walk, and which comes before which.
 use Rattle.std.proofs.Common.{◌≡◌, ℕ, zero, suc, ◌≤◌, ◌⊎◌, List, [], ◌∷◌, ◌++◌, sym, refl, ap, ◌∙◌, subst, inl, inr, arith}
+use Rattle.std.proofs.lemmas.Bool.Decides.{nat_tests}
 use Rattle.plans.specs.declared.Direction.{Direction}
 use Rattle.plans.specs.declared.Direction.TheVariants.{Left, Right}
 use Rattle.grammar.specs.Members.{◌∈◌}
@@ -266,8 +267,7 @@ sooner_last Left k l x y xs ys h s m n = absurd (omega arith)
 sooner_last Right k l x y xs ys h s m n = before_across x y ys xs m n
 
 never_sooner : (d : Direction) (k : ℕ) → Sooner d k k → ⊥
-never_sooner Left k s = omega arith
-never_sooner Right k s = omega arith
+never_sooner d k s = grind (arith, nat_tests)
 
 brothers_in_turn : (d : Direction) (parent k : ℕ) (f : Forest) → Once parent f → (x j n l o : ℕ) → InnerAmong parent k f x j n → InnerAmong parent k f x l o
     → Sooner d j l → ComesBefore (tour d parent k f) (leave n) (enter x l o)
