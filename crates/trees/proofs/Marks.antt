@@ -3,6 +3,7 @@ use Rattle.std.proofs.Common.{◌≡◌, ℕ, zero, suc, ◌<◌, Bool, true, fa
 use Rattle.std.specs.List.{AllByRecursion}
 use Rattle.std.proofs.lemmas.List.{get_or-set_same, get_or-set_other}
 use Rattle.std.proofs.lemmas.Bool.{cases_eq, both_ways}
+use Rattle.std.proofs.lemmas.Grind.{common_steps}
 use Rattle.grammar.specs.Members.{◌∈◌}
 use Rattle.trees.specs.Trees.{Apart}
 
@@ -34,11 +35,7 @@ fresh_right (x ∷ xs) ys s f = fresh_right xs ys (set s x true) f.2
 
 -- what is marked stays so
 pub still_marked : (s : List Bool) (n m : ℕ) → n < length s → get_or s m false ≡ true → get_or (set s n true) m false ≡ true
-still_marked s n m l h = at (cases_eq m n)
-  where
-    at : (m ≡ n) ⊎ (m ≡ n → ⊥) → get_or (set s n true) m false ≡ true
-    at (inl e) = rw e (get_or-set_same s n true false l)
-    at (inr d) = get_or-set_other s n m true false d ∙ h
+still_marked s n m l h = grind (arith, common_steps)
 
 -- what is marked is not reached again
 marked : (xs : List ℕ) (s : List Bool) (x : ℕ) → length s ≡ 4096 → get_or s x false ≡ true → Fresh xs s → x ∈ xs → ⊥

@@ -1,10 +1,9 @@
 -- Counts and parts of lists that are made by `++`, `joined` and `flat_map`.
-use Rattle.std.proofs.Common.{◌≡◌, ℕ, ◌+◌, ◌≤◌, eqb, List, [], ◌∷◌, ◌++◌, map, length, sum_by, count_by, sym, refl, ap, ◌∙◌, subst, inl, inr, append_assoc, append-nil, arith, length-append}
+use Rattle.std.proofs.Common.{◌≡◌, ℕ, ◌+◌, ◌≤◌, eqb, List, [], ◌∷◌, ◌++◌, map, length, sum_by, count_by, sym, refl, ap, ◌∙◌, subst, inl, inr, append_assoc, append-nil, arith}
 use Rattle.std.specs.List.{flat_map}
-use Rattle.std.proofs.lemmas.List.{map-append}
-use Rattle.std.proofs.lemmas.Grind.{flat_map-append}
-use Rattle.std.proofs.lemmas.List.Sums.{sum_by-cons, sum_by-append}
+use Rattle.std.proofs.lemmas.List.Sums.{sum_by-cons}
 use Rattle.std.proofs.lemmas.Bool.{cases_lt, cases_eq, eq-eqb, ne_eqb, cond-true, cond-false}
+use Rattle.std.proofs.lemmas.Grind.{common_steps}
 use Rattle.plans.specs.declared.Direction.{Direction}
 use Rattle.plans.specs.declared.Direction.TheVariants.{Left, Right}
 use Rattle.grammar.specs.Members.{◌∈◌}
@@ -13,8 +12,7 @@ use Rattle.walk.specs.Walks.{joined, Inside, OnceEach}
 
 module _ {A : Type 0} where
   pub length-joined : (d : Direction) (xs ys : List A) → length (joined d xs ys) ≡ length xs + length ys
-  length-joined Left xs ys = length-append xs ys
-  length-joined Right xs ys = simp length-append (omega arith)
+  length-joined d xs ys = grind (arith, common_steps)
 
   pub inside_self : (part : List A) → Inside part part
   inside_self part = record { before = []; behind = []; split = sym (append-nil part) }
@@ -35,16 +33,13 @@ module _ {A : Type 0} where
 
 module _ {A B : Type 0} (f : A → List B) where
   pub flat_joined : (d : Direction) (xs ys : List A) → flat_map f (joined d xs ys) ≡ joined d (flat_map f xs) (flat_map f ys)
-  flat_joined Left xs ys = flat_map-append f xs ys
-  flat_joined Right xs ys = flat_map-append f ys xs
+  flat_joined d xs ys = grind (arith, common_steps)
 
 pub map-joined : {A B : Type 0} (f : A → B) (d : Direction) (xs ys : List A) → map f (joined d xs ys) ≡ joined d (map f xs) (map f ys)
-map-joined f Left xs ys = map-append f xs ys
-map-joined f Right xs ys = map-append f ys xs
+map-joined f d xs ys = grind (arith, common_steps)
 
 pub sum_by-joined : {A : Type 0} (f : A → ℕ) (d : Direction) (xs ys : List A) → sum_by f (joined d xs ys) ≡ sum_by f xs + sum_by f ys
-sum_by-joined f Left xs ys = sum_by-append f xs ys
-sum_by-joined f Right xs ys = omega (arith, sum_by-append f ys xs)
+sum_by-joined f d xs ys = grind (arith, common_steps)
 
 -- one number before a list: it counts where it is the number that is counted
 counts_first : (n : ℕ) (xs : List ℕ) → count_by (eqb n) (n ∷ xs) ≡ 1 + count_by (eqb n) xs
