@@ -2,7 +2,7 @@
 // the refusal.
 #![tactic(auto)]
 
-use anyhow::anyhow;
+use anyhow::{anyhow, ensure};
 use grammar::Book;
 use grammar::vocabulary::MOST_ATTRIBUTES;
 use kinds::lengths::Lengths;
@@ -13,27 +13,22 @@ use plans::Direction;
 use plans::alternating::Alternating;
 use refusal::Refusal;
 use std::alloc::Global;
+use std::io;
 use std::io::{Read, Write};
 
-// Bytes past the longest table are read and let go: one too many is enough to have it refused.
-const LONGEST_TABLE: usize = 49152;
+const LONGEST_TABLE: u64 = 49152;
 
 const LONGEST_PLAN: u16 = 128;
 
 // No listing is longer.
 const LONGEST_LISTING: usize = 1024;
 
-fn read_table(input: &mut impl Read, heap: Global) -> anyhow::Result<Vec<u8>> {
+// Bytes past the longest table are read and let go: one too many is enough to have it refused.
+fn read_table(input: &mut impl Read, heap: Global) -> io::Result<Vec<u8>> {
     let mut bytes = Vec::new(heap);
-    for _ in 0..u64::MAX {
-        let mut chunk = [0u8; 4096];
-        let count = input.read(&mut chunk)?;
-        if count == 0 {
-            break;
-        }
-        if bytes.len() <= LONGEST_TABLE {
-            bytes.extend_from_slice(&chunk[0..count])?;
-        }
+    let mut table = input.take(LONGEST_TABLE + 1);
+    if table.read_to_end(&mut bytes)? as u64 > LONGEST_TABLE {
+        io::copy(table.into_inner(), &mut io::sink())?;
     }
     Ok(bytes)
 }
@@ -47,22 +42,15 @@ fn numbered_book(heap: Global, bytes: &[u8]) -> Result<Book, Refusal> {
     Ok(book)
 }
 
-fn run(rt: &HostRuntime) -> anyhow::Result<()> {
+fn main(rt: HostRuntime) -> anyhow::Result<()> {
     let bytes = read_table(&mut rt.stdin(), rt.alloc())?;
     let loaded = numbered_book(rt.alloc(), bytes.as_slice());
-    if let Err(Refusal::OutOfMemory) = loaded {
-        return Err(anyhow!("out of memory"));
-    }
+    ensure!(
+        !matches!(loaded, Err(Refusal::OutOfMemory)),
+        "out of memory"
+    );
     let mut buffer = [0u8; LONGEST_LISTING];
-    let Ok(length) = list(&loaded, &mut buffer) else {
-        return Err(anyhow!("the listing is too long"));
-    };
-    if length <= buffer.len() {
-        rt.stdout().write_all(&buffer[0..length])?;
-    }
+    let length = list(&loaded, &mut buffer).map_err(|_| anyhow!("the listing is too long"))?;
+    rt.stdout().write_all(&buffer[..length])?;
     Ok(())
-}
-
-fn main(rt: HostRuntime) -> anyhow::Result<()> {
-    run(&rt)
 }
