@@ -1,24 +1,16 @@
 -- A rule or a production that is read to its end, by what the code finds.
-use Rattle.std.proofs.Common.{◌≡◌, ℕ, Bool, true, false, List, [], ◌∷◌, ◌++◌, map, length, Ok, Err, Result, sym, refl, ap, ◌∙◌, not, eqb, arith}
+use Rattle.std.proofs.Common.{◌≡◌, ℕ, Bool, true, false, List, [], ◌∷◌, ◌++◌, map, Ok, Err, Result, sym, refl, ap, ◌∙◌, not, eqb, arith}
 use Rattle.std.proofs.lemmas.Bool.{cond-true, cond-false}
 use Rattle.std.proofs.lemmas.Bool.Decides.{nat_tests}
 use Rattle.refusal.specs.declared.Refusal.{Refusal}
 use Rattle.grammar.specs.declared.production.Occurrence.{Occurrence}
 use Rattle.refusal.specs.declared.Refusal.TheVariants.{BadRule}
 use Rattle.grammar.specs.declared.production.Rule.{Rule as RuleCode}
-use Rattle.grammar.specs.Grammar.{Vocabulary, Rule, Production, rule_view, complete}
+use Rattle.grammar.specs.Grammar.{Vocabulary, Production, rule_view, complete}
 use Rattle.grammar.specs.Lawful.{target}
 use Rattle.grammar.specs.Rules.{has_rule, rule_number, target_of}
 use Rattle.tables.specs.declared.record.Record.{Record}
-use Rattle.tables.specs.Reading.{occurrence, finished_rule, finished_production}
-
-pub rule_finished : (bytes : List ℕ) (v : Vocabulary) (admitted : ℕ → ℕ → ℕ → Bool) (before : List Rule) (r : Record) (arguments : List Occurrence) (s : List Bool)
-    (t : Occurrence) (n : ℕ) (after : List Rule) → t ≡ occurrence r → n ≡ length arguments → true ≡ admitted r.w4 r.w5 n
-    → after ≡ before ++ record { target = t; operation = r.w4; constant = r.w5; arguments = arguments } ∷ []
-    → finished_rule bytes v admitted before r arguments s ≡ Ok (after, s)
-rule_finished bytes v admitted before r arguments s t n after e m h a =
-    let here : admitted r.w4 r.w5 (length arguments) ≡ true = rw (← m) (sym h) in
-    cond-true _ _ _ here ∙ ap {B = Result (List Rule × List Bool) Refusal} (λ x. Ok (x, s)) (sym (a ∙ ap (λ o. before ++ record { target = o; operation = r.w4; constant = r.w5; arguments = arguments } ∷ []) e))
+use Rattle.tables.specs.Reading.{finished_production}
 
 pub same_targets : (rules : List RuleCode) → map target (map rule_view rules) ≡ map target_of rules
 same_targets [] = refl

@@ -1,13 +1,12 @@
 -- One rule or production more, by what the code finds on the way.
-use Rattle.std.proofs.Common.{◌≡◌, ℕ, ◌+◌, ◌<◌, ◌≤◌, Bool, true, false, cond, not, ◌⊎◌, List, [], map, Some, Ok, Err, Option, Result, sym, refl, ap, ◌∙◌, subst, inl, inr, arith}
-use Rattle.std.proofs.lemmas.Bool.{cond-true, and_parts}
+use Rattle.std.proofs.Common.{◌≡◌, ℕ, ◌+◌, ◌<◌, ◌≤◌, Bool, true, false, cond, not, ◌⊎◌, List, [], map, Some, Ok, Err, Option, Result, sym, refl, ap, ◌∙◌, inl, inr, arith}
+use Rattle.std.proofs.lemmas.Bool.{cond-true}
 use Rattle.refusal.specs.declared.Refusal.{Refusal}
 use Rattle.refusal.specs.declared.Refusal.TheVariants.{NoSuch, BadRule, OutOfMemory}
 use Rattle.grammar.specs.declared.production.Occurrence.{Occurrence}
 use Rattle.grammar.specs.declared.production.Rule.{Rule as RuleCode}
 use Rattle.grammar.specs.Grammar.{Vocabulary, Rule, Production, rule_view, is_inner, occurs}
-use Rattle.grammar.specs.Lawful.{target}
-use Rattle.grammar.specs.Rules.{has_rule, target_of}
+use Rattle.grammar.specs.Rules.{target_of}
 use Rattle.tables.specs.declared.record.Link.{Link}
 use Rattle.tables.specs.declared.record.Record.{Record}
 use Rattle.tables.specs.Chains.{Reading, and_then, follow, along}
@@ -65,13 +64,6 @@ module _ (bytes : List ℕ) (v : Vocabulary) (admitted : ℕ → ℕ → ℕ →
         → finished_rule bytes v admitted (map rule_view rules) r arguments s' ≡ given
         → rule bytes v admitted left right (map rule_view rules) r s ≡ given
     arguments_read arguments s' given h f = rule_is ∙ ap (λ x. and_then x (finished_rule bytes v admitted (map rule_view rules) r)) h ∙ f
-
-    -- no rule before sets the target
-    pub is_first : has_rule (map target_of rules) t ≡ false
-    is_first =
-        let p = and_parts _ _ w.wanting in
-        let z : has_rule (map target (map rule_view rules)) o ≡ false = sym (not_not _) ∙ ap not p.1 in
-        subst (λ ts. has_rule ts t ≡ false) (same_targets rules) (subst (λ q. has_rule (map target (map rule_view rules)) q ≡ false) (sym w.names) z)
 
 -- A production, from its right side on.
 module _ (bytes : List ℕ) (v : Vocabulary) (admitted : ℕ → ℕ → ℕ → Bool) (before : List Production) (r : Record) (s : List Bool) where

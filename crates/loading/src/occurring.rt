@@ -1,8 +1,9 @@
 // Occurrences that a production has.
-ghost use Rattle.std.specs.Prelude.{◌≡◌};
+ghost use Rattle.std.specs.Prelude.{◌≡◌, ◌-◌};
 ghost use Rattle.grammar.specs.Grammar.{defined_at};
 ghost use Rattle.grammar.specs.Rules.{slot, Within};
 
+use grammar::vocabulary::MOST_ATTRIBUTES;
 use grammar::{AttributeKind, Occurrence};
 
 // An occurrence of a production, with the kind of its attribute.
@@ -24,7 +25,13 @@ impl Occurring {
     pub(crate) fn slot(self) -> usize
         ensures { result ≡ slot self.occurrence }
     {
-        let position = usize::from(self.occurrence.position);
-        64 * position + (usize::from(self.occurrence.attribute) - 1)
+        MOST_ATTRIBUTES * usize::from(self.occurrence.position) + self.column()
+    }
+
+    // The place of the attribute among all attributes.
+    pub(crate) fn column(self) -> usize
+        ensures { result ≡ self.occurrence.attribute - 1 }
+    {
+        usize::from(self.occurrence.attribute) - 1
     }
 }

@@ -32,8 +32,8 @@ impl Rules {
         }
     }
 
-    // Whether one of the rules sets the occurrence.
-    pub(crate) fn set(&self, target: Occurring) -> bool
+    // Whether a rule is for the occurrence.
+    pub(crate) fn have(&self, target: Occurring) -> bool
         ensures { result ≡ has_rule (map target_of self.now.rules.items) target.occurrence }
     {
         self.slots[target.slot()] != 0

@@ -4,10 +4,10 @@ ghost use Rattle.grammar.specs.Arcs.{with_argument};
 ghost use Rattle.grammar.specs.Grammar.{vocabulary_view, rule_view, production_view, attribute, symbol_at, occurs, defined, every_below, settled, complete};
 ghost use Rattle.grammar.specs.Rules.{has_rule, target_of};
 ghost use Rattle.tables.specs.Reading.{Gives, occurrence as occurrence_of, argument as argument_read, finished_production};
-ghost use Rattle.loading.specs.Checks.{target_at};
 
 use crate::occurring::Occurring;
 use crate::rules::Rules;
+use grammar::vocabulary::MOST_ATTRIBUTES;
 use grammar::{Board, Occurrence, Production, Vocabulary, arc_label};
 use refusal::Refusal;
 use tables::Record;
@@ -23,8 +23,10 @@ pub(crate) struct Sides<'v> {
 }
 
 impl Sides<'_> {
+    ghost use Rattle.loading.specs.Drafts.{vocabulary_of, right_of, has, kind_of, targets_of, next_target};
+
     fn symbol_at(&self, position: u16) -> Option<u16>
-        ensures { MatchOption result (vec_len self.now.right < position) (λ s. (position ≤ vec_len self.now.right) × (s ≡ symbol_at self.now.left self.now.right.items position)) }
+        ensures { MatchOption result (vec_len self.now.right < position) (λ s. (position ≤ vec_len self.now.right) × (s ≡ symbol_at self.now.left (right_of self.now) position)) }
     {
         match usize::from(position).checked_sub(1) {
             None => Some(self.left),
@@ -34,7 +36,7 @@ impl Sides<'_> {
 
     // The occurrence, if the production has it.
     fn occurring(&self, occurrence: Occurrence) -> Option<Occurring>
-        ensures { MatchOption result (occurs (vocabulary_view self.now.vocabulary.now) self.now.left self.now.right.items occurrence ≡ false) (λ x. (x.occurrence ≡ occurrence) × (x.kind ≡ (attribute (vocabulary_view self.now.vocabulary.now) occurrence.attribute).kind) × (occurs (vocabulary_view self.now.vocabulary.now) self.now.left self.now.right.items occurrence ≡ true)) }
+        ensures { MatchOption result (has self.now occurrence ≡ false) (λ o. (has self.now occurrence ≡ true) × (o.occurrence ≡ occurrence) × (o.kind ≡ kind_of self.now occurrence)) }
     {
         let symbol = self.symbol_at(occurrence.position)?;
         let attribute = self.vocabulary.attribute(occurrence.attribute)?;
@@ -47,20 +49,25 @@ impl Sides<'_> {
         })
     }
 
-    // The target of the rule at a record, where a rule for it may stand after the others.
-    pub(crate) fn target(&self, rules: &Rules, found: Record) -> Result<Occurring, Refusal>
-        ensures { MatchResult result (λ t. target_at (vocabulary_view self.now.vocabulary.now) self.now.left self.now.right.items (map target_of rules.now.rules.items) found ≡ Ok t.occurrence) (λ e. target_at (vocabulary_view self.now.vocabulary.now) self.now.left self.now.right.items (map target_of rules.now.rules.items) found ≡ Err e) }
+    // The occurrence that a rule or an argument names.
+    fn named_by(&self, found: Record) -> Result<Occurring, Refusal>
+        ensures { MatchResult result (λ o. (has self.now (occurrence_of found) ≡ true) × (o.occurrence ≡ occurrence_of found) × (o.kind ≡ kind_of self.now (occurrence_of found))) (λ e. (has self.now (occurrence_of found) ≡ false) × (e ≡ Refusal.NoSuch found.place)) }
     {
-        let named = Occurrence {
+        let occurrence = Occurrence {
             position: found.w1,
             attribute: found.w2,
         };
-        let Some(target) = self.occurring(named) else {
-            return Err(Refusal::NoSuch {
-                record: found.place,
-            });
-        };
-        if target.is_defined() && !rules.set(target) {
+        self.occurring(occurrence).ok_or(Refusal::NoSuch {
+            record: found.place,
+        })
+    }
+
+    // The target of the rule at a record, where a rule for it may stand after the others.
+    pub(crate) fn target(&self, rules: &Rules, found: Record) -> Result<Occurring, Refusal>
+        ensures { MatchResult result (λ t. next_target self.now rules.now found ≡ Ok t.occurrence) (λ e. next_target self.now rules.now found ≡ Err e) }
+    {
+        let target = self.named_by(found)?;
+        if target.is_defined() && !rules.have(target) {
             Ok(target)
         } else {
             Err(Refusal::BadRule {
@@ -77,47 +84,38 @@ impl Sides<'_> {
         board: &mut Board,
         found: Record,
     ) -> Result<(), Refusal>
-        ensures value { (bytes : List ℕ) (admitted : ℕ → ℕ → ℕ → Bool) (s : List Bool) → Gives (λ _. arguments.new.items) result s (argument_read bytes (vocabulary_view self.now.vocabulary.now) admitted self.now.left self.now.right.items arguments.old.items found s) }
+        ensures value { (bytes : List ℕ) (admitted : ℕ → ℕ → ℕ → Bool) (s : List Bool) → Gives (λ _. arguments.new.items) result s (argument_read bytes (vocabulary_of self.now) admitted self.now.left (right_of self.now) arguments.old.items found s) }
         ensures len { OnOk result (vec_len arguments.new ≡ vec_len arguments.old + 1) }
         ensures items { OnOk result (arguments.new.items ≡ arguments.old.items ++ occurrence_of found ∷ []) }
-        ensures board { OnOk result (board.new ≡ with_argument (vocabulary_view self.now.vocabulary.now) target.occurrence board.old (occurrence_of found)) }
+        ensures board { OnOk result (board.new ≡ with_argument (vocabulary_of self.now) target.occurrence board.old (occurrence_of found)) }
     {
-        let named = Occurrence {
-            position: found.w1,
-            attribute: found.w2,
-        };
-        let Some(argument) = self.occurring(named) else {
-            return Err(Refusal::NoSuch {
-                record: found.place,
-            });
-        };
+        let argument = self.named_by(found)?;
         if argument.is_defined() {
             return Err(Refusal::DefinedArgument {
                 record: found.place,
             });
         }
-        arguments.push(named)?;
+        arguments.push(argument.occurrence)?;
         if !argument.kind.is_given() {
-            let row = 64 * (usize::from(named.attribute) - 1);
-            let place = row + (usize::from(target.occurrence.attribute) - 1);
-            board[place] |= arc_label(named.position, target.occurrence.position);
+            let label = arc_label(argument.occurrence.position, target.occurrence.position);
+            board[MOST_ATTRIBUTES * argument.column() + target.column()] |= label;
         }
         Ok(())
     }
 
     // Whether the occurrence, if it is a defined one of the production, has a rule.
     fn is_settled(&self, rules: &Rules, occurrence: Occurrence) -> bool
-        ensures { result ≡ (not (occurs (vocabulary_view self.now.vocabulary.now) self.now.left self.now.right.items occurrence && defined (vocabulary_view self.now.vocabulary.now) occurrence) || has_rule (map target_of rules.now.rules.items) occurrence) }
+        ensures { result ≡ (not (has self.now occurrence && defined (vocabulary_of self.now) occurrence) || has_rule (targets_of rules.now) occurrence) }
     {
         match self.occurring(occurrence) {
-            Some(named) => !named.is_defined() || rules.set(named),
+            Some(named) => !named.is_defined() || rules.have(named),
             None => true,
         }
     }
 
     // Whether each defined occurrence at the position has a rule.
     fn are_settled(&self, rules: &Rules, position: u16) -> bool
-        ensures { result ≡ every_below (length self.now.vocabulary.now.attributes.items) (settled (vocabulary_view self.now.vocabulary.now) self.now.left self.now.right.items (map target_of rules.now.rules.items) position) }
+        ensures { result ≡ every_below (length (vocabulary_of self.now).attributes) (settled (vocabulary_of self.now) self.now.left (right_of self.now) (targets_of rules.now) position) }
     {
         let end = self.vocabulary.attributes.len() as u16 + 1;
         (1..end).all(|attribute| {
@@ -133,7 +131,7 @@ impl Sides<'_> {
 
     // Whether each defined occurrence of the production has a rule.
     fn is_complete(&self, rules: &Rules) -> bool
-        ensures { result ≡ complete (vocabulary_view self.now.vocabulary.now) self.now.left self.now.right.items (map target_of rules.now.rules.items) }
+        ensures { result ≡ complete (vocabulary_of self.now) self.now.left (right_of self.now) (targets_of rules.now) }
     {
         let end = self.right.len() as u16 + 1;
         (0..end).all(|position| self.are_settled(rules, position))
@@ -147,9 +145,9 @@ impl Sides<'_> {
         found: Record,
     ) -> Result<(), Refusal>
         requires { self.left ≡ found.w1 }
-        ensures value { (bytes : List ℕ) (admitted : ℕ → ℕ → ℕ → Bool) (s : List Bool) → Gives (λ _. map production_view productions.new.items) result s (finished_production bytes (vocabulary_view self.entry.vocabulary.now) admitted (map production_view productions.old.items) found self.entry.right.items (map rule_view rules.rules.items) s) }
+        ensures value { (bytes : List ℕ) (admitted : ℕ → ℕ → ℕ → Bool) (s : List Bool) → Gives (λ _. map production_view productions.new.items) result s (finished_production bytes (vocabulary_of self.entry) admitted (map production_view productions.old.items) found (right_of self.entry) (map rule_view rules.rules.items) s) }
         ensures len { OnOk result (vec_len productions.new ≡ vec_len productions.old + 1) }
-        ensures items { OnOk result (map production_view productions.new.items ≡ map production_view productions.old.items ++ record { left = found.w1; right = self.entry.right.items; rules = map rule_view rules.rules.items } ∷ []) }
+        ensures items { OnOk result (map production_view productions.new.items ≡ map production_view productions.old.items ++ record { left = found.w1; right = right_of self.entry; rules = map rule_view rules.rules.items } ∷ []) }
     {
         if !self.is_complete(&rules) {
             return Err(Refusal::BadRule {

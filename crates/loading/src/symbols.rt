@@ -4,6 +4,7 @@ ghost use Rattle.grammar.specs.Kinds.{attribute_kind};
 ghost use Rattle.tables.specs.Reading.{Gives, standing, attributes as attributes_read, symbols as symbols_read};
 ghost use Rattle.loading.specs.Views.{gathered};
 
+use grammar::vocabulary::MOST_ATTRIBUTES;
 use grammar::{Attribute, AttributeKind, Symbol, SymbolKind, Vocabulary};
 use refusal::Refusal;
 use std::alloc::Global;
@@ -11,8 +12,6 @@ use tables::record::HEAD;
 use tables::{Link, Reached, Record, Table};
 
 const MOST_SYMBOLS: usize = 48;
-
-const MOST_ATTRIBUTES: usize = 64;
 
 const MOST_OF_ONE_SYMBOL: usize = 16;
 
