@@ -146,3 +146,11 @@ without_past x q p h l = ⊎_elim
     (λ (e : p ≡ q). has_past 64 x p h (omega arith) ∙ sym (ap (λ b. b && not (eqb p q)) (has_past 64 x p h (omega arith))))
     (λ (n : p ≡ q → ⊥). sym (ap (λ b. has x p && not b) (ne_eqb p q n) ∙ and-true (has x p)))
     (cases_eq p q)
+
+-- a word that is not 0 has a place
+below_pow : (n : ℕ) → n < 2 ^ n
+below_pow zero = omega arith
+below_pow (suc n) = rw pow-suc (omega (arith, below_pow n))
+
+pub has_some : (x : ℕ) → 0 < x → (p : ℕ) × (has x p ≡ true)
+has_some x h = let low = trailing_lowest x x (below_pow x) h in (count_trailing_zeros x x, low.there)

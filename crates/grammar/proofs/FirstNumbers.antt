@@ -1,52 +1,56 @@
--- Numbers before any plan, attribute by attribute.
-use Rattle.std.proofs.Common.{◌≡◌, ℕ, suc, ◌+◌, ◌-◌, ◌<◌, ◌≤◌, min, true, false, cond, List, [], ◌∷◌, ◌++◌, length, get_or, take, set, replicate, sym, refl, ap, ◌∙◌, inl, inr, arith}
-use Rattle.std.proofs.lemmas.List.{append_assoc, length-take-le, set_at, take_all, take_more}
-use Rattle.std.proofs.lemmas.Bool.{cases_lt}
+-- Numbers before any plan, place by place.
+use Rattle.std.proofs.Common.{◌≡◌, ℕ, zero, suc, ◌-◌, ◌<◌, ◌≤◌, cond, ◌&&◌, ltb, List, [], ◌∷◌, length, get_or, take, replicate, sym, refl, ap, ◌∙◌, inl, inr, arith, length-append, length-take}
+use lib.ListN.{get_or-replicate}
+use Rattle.std.proofs.lemmas.List.{ext_get_or, length-replicate, get_or-take, get_or_append_left, get_or-append_right}
+use Rattle.std.proofs.lemmas.Bool.{cases_lt, lt-ltb, le-ltb}
 use Rattle.grammar.specs.declared.vocabulary.Attribute.{Attribute}
-use Rattle.grammar.specs.Grammar.{given}
+use Rattle.grammar.specs.Grammar.{given, no_attribute}
 use Rattle.grammar.specs.Books.{first_numbers, unnumbered}
 
 length-first_numbers : (attributes : List Attribute) → length (first_numbers attributes) ≡ length attributes
 length-first_numbers [] = refl
 length-first_numbers (a ∷ rest) = ap suc (length-first_numbers rest)
 
-first_numbers_push : (attributes : List Attribute) (a : Attribute) → first_numbers (attributes ++ a ∷ []) ≡ first_numbers attributes ++ cond (given a.kind) 0 255 ∷ []
-first_numbers_push [] a = refl
-first_numbers_push (x ∷ rest) a = ap (λ ns. cond (given x.kind) 0 255 ∷ ns) (first_numbers_push rest a)
+number_at : (attributes : List Attribute) (p : ℕ) → p < length attributes → get_or (first_numbers attributes) p 0 ≡ cond (given (get_or attributes p no_attribute).kind) 0 255
+number_at [] p h = absurd (omega arith)
+number_at (a ∷ rest) zero h = refl
+number_at (a ∷ rest) (suc p) h = number_at rest p (omega arith)
 
--- so many attributes are looked at, from the first
-abbrev pub numbers_upto : ℕ → List Attribute → List ℕ
-numbers_upto place attributes = first_numbers (take place attributes) ++ replicate (64 - place) 255
+-- what stands at a place
+abbrev pub first_at : List Attribute → ℕ → ℕ
+first_at attributes p = cond (ltb p (length attributes) && given (get_or attributes p no_attribute).kind) 0 255
 
-module _ (attributes : List Attribute) (place : ℕ) (d : Attribute) (here : place < length attributes) (few : place < 64) where
-  -- one attribute more, and the place that waits for its number
-  next : numbers_upto place attributes ≡ first_numbers (take place attributes) ++ 255 ∷ replicate (64 - (place + 1)) 255
-  next = let more : 64 - place ≡ suc (64 - (place + 1)) = omega (arith, few) in ap (λ n. first_numbers (take place attributes) ++ replicate n 255) more
+module _ (attributes : List Attribute) (few : length attributes ≤ 64) where
+  pub known : (p : ℕ) → p < length attributes → get_or (unnumbered attributes) p 0 ≡ cond (given (get_or attributes p no_attribute).kind) 0 255
+  known p h = get_or_append_left (first_numbers attributes) (replicate (64 - length attributes) 255) 0 p (omega (arith, length-first_numbers attributes)) ∙ number_at attributes p h
 
-  one_more : numbers_upto (place + 1) attributes ≡ first_numbers (take place attributes) ++ cond (given (get_or attributes place d).kind) 0 255 ∷ replicate (64 - (place + 1)) 255
-  one_more = ap (λ front. front ++ replicate (64 - (place + 1)) 255) (ap first_numbers (take_more attributes place d here) ∙ first_numbers_push (take place attributes) (get_or attributes place d))
-      ∙ append_assoc (first_numbers (take place attributes)) _ _
+  pub past : (p : ℕ) → length attributes ≤ p → p < 64 → get_or (unnumbered attributes) p 0 ≡ 255
+  past p l h = get_or-append_right (first_numbers attributes) (replicate (64 - length attributes) 255) (length attributes) p 0 (length-first_numbers attributes) l
+      ∙ get_or-replicate (64 - length attributes) (p - length attributes) 255 0 (omega arith)
 
-  length_front : length (first_numbers (take place attributes)) ≡ place
-  length_front = length-first_numbers (take place attributes) ∙ length-take-le place attributes (omega (arith, here))
+  unnumbered_at : (p : ℕ) → p < 64 → get_or (unnumbered attributes) p 0 ≡ first_at attributes p
+  unnumbered_at p h = elim (cases_lt p (length attributes)) [
+    | inl l ↦ known p l ∙ sym (ap (λ b. cond (b && given (get_or attributes p no_attribute).kind) 0 255) (lt-ltb p (length attributes) l))
+    | inr l ↦ past p l h ∙ sym (ap (λ b. cond (b && given (get_or attributes p no_attribute).kind) 0 255) (le-ltb p (length attributes) l))
+  ]
 
-  pub number_given : given (get_or attributes place d).kind ≡ true → set (numbers_upto place attributes) place 0 ≡ numbers_upto (place + 1) attributes
-  number_given h = ap (λ ns. set ns place 0) next ∙ set_at _ _ _ 0 place length_front
-      ∙ sym (one_more ∙ ap (λ b. first_numbers (take place attributes) ++ cond b 0 255 ∷ replicate (64 - (place + 1)) 255) h)
+  length-unnumbered : length (unnumbered attributes) ≡ 64
+  length-unnumbered = length-append (first_numbers attributes) (replicate (64 - length attributes) 255) ∙ omega (arith, few, length-first_numbers attributes, length-replicate {A = ℕ} (64 - length attributes) 255)
 
-  pub number_none : given (get_or attributes place d).kind ≡ false → numbers_upto place attributes ≡ numbers_upto (place + 1) attributes
-  number_none h = next ∙ sym (one_more ∙ ap (λ b. first_numbers (take place attributes) ++ cond b 0 255 ∷ replicate (64 - (place + 1)) 255) h)
+  pub numbers_whole : (numbers : List ℕ) → length numbers ≡ 64 → ((p : ℕ) → p < 64 → get_or numbers p 0 ≡ first_at attributes p) → numbers ≡ unnumbered attributes
+  numbers_whole numbers long each = ext_get_or 0 numbers (unnumbered attributes) (long ∙ sym length-unnumbered)
+      (λ p l. let within : p < 64 = omega arith in each p within ∙ sym (unnumbered_at p within))
 
-pub numbers_whole : (attributes : List Attribute) → length attributes ≤ 64 → numbers_upto (length attributes) attributes ≡ unnumbered attributes
-numbers_whole attributes few = ap (λ front. first_numbers front ++ replicate (64 - length attributes) 255) (take_all (length attributes) attributes (omega arith))
+first_at_take : (attributes : List Attribute) (p : ℕ) → p < 64 → first_at attributes p ≡ first_at (take 64 attributes) p
+first_at_take attributes p h =
+    let long = length-take 64 attributes in
+    ap (λ a. cond (ltb p (length attributes) && given a.kind) 0 255) (sym (get_or-take 64 attributes p no_attribute h))
+    ∙ ap (λ b. cond (b && given (get_or (take 64 attributes) p no_attribute).kind) 0 255) (elim (cases_lt p (length attributes)) [
+      | inl l ↦ lt-ltb p (length attributes) l ∙ sym (lt-ltb p (length (take 64 attributes)) (omega arith))
+      | inr l ↦ le-ltb p (length attributes) l ∙ sym (le-ltb p (length (take 64 attributes)) (omega arith))
+    ])
 
-pub numbers_first : (attributes : List Attribute) → numbers_upto (min (length attributes) 64) attributes ≡ unnumbered (take 64 attributes)
-numbers_first attributes = elim (cases_lt 64 (length attributes)) [
-  | inl many ↦
-      let all : min (length attributes) 64 ≡ 64 = omega arith in
-      let long = length-take-le 64 attributes (omega arith) in
-      ap (λ n. numbers_upto n attributes) all ∙ ap (λ n. first_numbers (take 64 attributes) ++ replicate (64 - n) 255) (sym long)
-  | inr few ↦
-      let all : min (length attributes) 64 ≡ length attributes = omega arith in
-      ap (λ n. numbers_upto n attributes) all ∙ numbers_whole attributes few ∙ ap unnumbered (sym (take_all 64 attributes few))
-]
+pub numbers_first : (attributes : List Attribute) (numbers : List ℕ) → length numbers ≡ 64 → ((p : ℕ) → p < 64 → get_or numbers p 0 ≡ first_at attributes p)
+    → numbers ≡ unnumbered (take 64 attributes)
+numbers_first attributes numbers long each =
+    numbers_whole (take 64 attributes) (omega (arith, length-take 64 attributes)) numbers long (λ p l. each p l ∙ first_at_take attributes p l)

@@ -1,5 +1,6 @@
 pub mod Bits
 pub mod Boards
+pub mod Elements
 pub mod FirstNumbers
 pub mod FoundRules
 pub mod Labels

@@ -1,9 +1,6 @@
 -- Attributes that want a number, and a book that has none yet.
-use Rattle.std.proofs.Common.{◌≡◌, ℕ, zero, suc, ◌+◌, ◌-◌, ◌<◌, ◌≤◌, min, Bool, true, false, cond, not, ◌&&◌, ◌||◌, eqb, ltb, leb, List, [], ◌∷◌, length, get_or, replicate, sym, refl, ap, ◌∙◌, subst, inl, inr, arith}
-use lib.ListN.{get_or-replicate}
-use Rattle.std.proofs.lemmas.Bool.{cases_Bool, cases_lt, or_right, and_parts, and_from, and_left, and_right, lt-ltb, le-ltb, ltb-true, leb-true, le-leb, both_ways, not_from_false, not-true, not-false, cond-true, cond-false}
-use Rattle.std.proofs.lemmas.List.{get_or_default, get_or_append_left, get_or-append_right}
-use Rattle.std.proofs.lemmas.Bool.Decides.{eqb_tells}
+use Rattle.std.proofs.Common.{◌≡◌, ℕ, suc, ◌-◌, ◌<◌, ◌≤◌, Bool, true, false, cond, not, ◌&&◌, ltb, leb, List, [], length, get_or, sym, refl, ap, ◌∙◌, subst, inl, inr, arith}
+use Rattle.std.proofs.lemmas.Bool.{cases_Bool, cases_lt, and_parts, and_from, and_left, and_right, lt-ltb, le-ltb, ltb-true, leb-true, le-leb, both_ways, not_from_false, not-true, not-false, cond-true, cond-false}
 use Rattle.bitset.specs.Sets.{has}
 use Rattle.grammar.specs.declared.vocabulary.AttributeKind.{AttributeKind}
 use Rattle.grammar.specs.declared.vocabulary.AttributeKind.TheVariants.{Inherited, Synthesized, Given}
@@ -11,8 +8,9 @@ use Rattle.grammar.specs.declared.vocabulary.Attribute.{Attribute}
 use Rattle.grammar.specs.Grammar.{Grammar, attribute, is_attribute, given, defined_at, no_attribute}
 use Rattle.grammar.specs.Lawful.{Lawful, LawfulProduction, LawfulRule, Used}
 use Rattle.grammar.specs.Arcs.{Precedes}
-use Rattle.grammar.specs.Books.{first_numbers, unnumbered, wanting_at}
+use Rattle.grammar.specs.Books.{unnumbered, wanting_at}
 use Rattle.grammar.specs.Numberings.{wants, number_of, Valid, Numbered}
+use Rattle.grammar.proofs.FirstNumbers.{known, past}
 use Rattle.grammar.proofs.Members.{all_member}
 
 defined_not_given : (kind : AttributeKind) (position : ℕ) → defined_at kind position ≡ true → given kind ≡ false
@@ -39,45 +37,6 @@ arc_target_wants g lawful a b found =
     let free : given (attribute g.vocabulary arc.rule.target.attribute).kind ≡ false = defined_not_given _ _ r.defines.1 in
     subst (λ o. wants g o.attribute ≡ true) arc.sets (and_from _ _ named (not_from_false _ free))
 
--- the set of the wanting attributes, one place further
-module _ (attributes : List Attribute) (place : ℕ) (d : Attribute) (here : place < length attributes) where
-  at_place : (b : Bool) → given (get_or attributes place d).kind ≡ b → wanting_at attributes place ≡ not b
-  at_place b h = ap (λ t. t && not (given (get_or attributes place no_attribute).kind)) (lt-ltb place (length attributes) here)
-      ∙ ap (λ a. not (given a.kind)) (get_or_default attributes place no_attribute d here) ∙ ap not h
-
-  elsewhere : (p : ℕ) → (p ≡ place → ⊥) → ltb p place ≡ ltb p (place + 1)
-  elsewhere p ne = elim (cases_lt p place) [
-    | inl l ↦ lt-ltb p place l ∙ sym (lt-ltb p (place + 1) (omega arith))
-    | inr l ↦ le-ltb p place l ∙ sym (le-ltb p (place + 1) (omega arith))
-  ]
-
-  pub wanted_more : given (get_or attributes place d).kind ≡ false → (s s' p : ℕ) → place < 64 → has s p ≡ (ltb p place && wanting_at attributes p) → has s' p ≡ (has s p || (ltb p 64 && eqb p place))
-      → has s' p ≡ (ltb p (place + 1) && wanting_at attributes p)
-  wanted_more h s s' p few e f = elim (eqb_tells p place) [
-    | inl t ↦ f ∙ or_right (has s p) _ (and_from _ _ (lt-ltb p 64 (omega (arith, t.1))) t.0)
-        ∙ sym (and_from _ _ (lt-ltb p (place + 1) (omega (arith, t.1))) (subst (λ q. wanting_at attributes q ≡ true) (sym t.1) (at_place false h)))
-    | inr t ↦ f ∙ ap (λ b. has s p || b) (and_right (ltb p 64) _ t.0) ∙ or_false (has s p) ∙ e ∙ ap (λ b. b && wanting_at attributes p) (elsewhere p t.1)
-  ]
-    where
-      or_false : (b : Bool) → (b || false) ≡ b
-      or_false true = refl
-      or_false false = refl
-
-  pub given_more : given (get_or attributes place d).kind ≡ true → (s p : ℕ) → has s p ≡ (ltb p place && wanting_at attributes p) → has s p ≡ (ltb p (place + 1) && wanting_at attributes p)
-  given_more h s p e = elim (eqb_tells p place) [
-    | inl t ↦ e ∙ and_left _ _ (le-ltb p place (omega (arith, t.1))) ∙ sym (and_right (ltb p (place + 1)) _ (subst (λ q. wanting_at attributes q ≡ false) (sym t.1) (at_place true h)))
-    | inr t ↦ e ∙ ap (λ b. b && wanting_at attributes p) (elsewhere p t.1)
-  ]
-
-pub wanted_all : (attributes : List Attribute) (n p s : ℕ) → n ≡ min (length attributes) 64 → has s p ≡ (ltb p n && wanting_at attributes p) → has s p ≡ (ltb p 64 && wanting_at attributes p)
-wanted_all attributes n p s e h = h ∙ elim (cases_lt p (length attributes)) [
-  | inl l ↦ ap (λ b. b && wanting_at attributes p) (elim (cases_lt p 64) [
-    | inl k ↦ lt-ltb p n (omega arith) ∙ sym (lt-ltb p 64 k)
-    | inr k ↦ le-ltb p n (omega arith) ∙ sym (le-ltb p 64 k)
-  ])
-  | inr l ↦ let no : wanting_at attributes p ≡ false = and_left _ _ (le-ltb p (length attributes) l) in and_right (ltb p n) _ no ∙ sym (and_right (ltb p 64) _ no)
-]
-
 pub wanted_few : (attributes : List Attribute) (p : ℕ) → length attributes ≤ 64 → (ltb p 64 && wanting_at attributes p) ≡ wanting_at attributes p
 wanted_few attributes p few = elim (cases_lt p 64) [
   | inl l ↦ ap (λ b. b && wanting_at attributes p) (lt-ltb p 64 l)
@@ -85,22 +44,6 @@ wanted_few attributes p few = elim (cases_lt p 64) [
 ]
 
 -- A book that is not numbered: given attributes have 0, and nothing else has a number.
-number_at : (attributes : List Attribute) (p : ℕ) → p < length attributes → get_or (first_numbers attributes) p 0 ≡ cond (given (get_or attributes p no_attribute).kind) 0 255
-number_at [] p h = absurd (omega arith)
-number_at (a ∷ rest) zero h = refl
-number_at (a ∷ rest) (suc p) h = number_at rest p (omega arith)
-
-length-firsts : (attributes : List Attribute) → length (first_numbers attributes) ≡ length attributes
-length-firsts [] = refl
-length-firsts (a ∷ rest) = ap suc (length-firsts rest)
-
-module _ (attributes : List Attribute) (few : length attributes ≤ 64) where
-  known : (p : ℕ) → p < length attributes → get_or (unnumbered attributes) p 0 ≡ cond (given (get_or attributes p no_attribute).kind) 0 255
-  known p h = get_or_append_left (first_numbers attributes) (replicate (64 - length attributes) 255) 0 p (omega (arith, length-firsts attributes)) ∙ number_at attributes p h
-
-  past : (p : ℕ) → length attributes ≤ p → p < 64 → get_or (unnumbered attributes) p 0 ≡ 255
-  past p l h = get_or-append_right (first_numbers attributes) (replicate (64 - length attributes) 255) (length attributes) p 0 (length-firsts attributes) l
-      ∙ get_or-replicate (64 - length attributes) (p - length attributes) 255 0 (omega arith)
 
 -- the tests on attributes, by places
 module _ (g : Grammar) where

@@ -1,24 +1,40 @@
 // The arc board: which attribute precedes which, and where bars stand.
 ghost use Rattle.std.specs.Prelude.{◌≡◌};
-ghost use Rattle.grammar.specs.Arcs.{label};
+ghost use Rattle.grammar.specs.Arcs.{bar, label};
+
+use plans::Direction;
 
 // A place for each pair of attributes; 64 * (a - 1) + b - 1 belongs to a before b.
 pub const BOARD_PLACES: usize = 4096;
 
-// The labels of arcs, each a sum of the bits below; 0 is blank.
+// The labels of arcs, each a sum of the bit of precedence and of bars; 0 is blank.
 pub type Board = [u8; BOARD_PLACES];
 
 pub const PRECEDES: u8 = 1;
 
-pub const BARRED_LEFT: u8 = 2;
-
-pub const BARRED_RIGHT: u8 = 4;
+// The bit of a bar for passes in the direction.
+pub fn bar(direction: Direction) -> u8
+    ensures { result ≡ bar direction }
+{
+    match direction {
+        Direction::Left => 2,
+        Direction::Right => 4,
+    }
+}
 
 // The label of an arc from an attribute at position j to one at position k of a production.
 pub fn arc_label(j: u16, k: u16) -> u8
     ensures { result ≡ label j k }
 {
-    let left = if 1 <= k && k <= j { BARRED_LEFT } else { 0 };
-    let right = if 1 <= j && j <= k { BARRED_RIGHT } else { 0 };
+    let left = if 1 <= k && k <= j {
+        bar(Direction::Left)
+    } else {
+        0
+    };
+    let right = if 1 <= j && j <= k {
+        bar(Direction::Right)
+    } else {
+        0
+    };
     PRECEDES + left + right
 }

@@ -3,6 +3,7 @@
 
 pub mod board;
 pub mod book;
+pub mod directions;
 mod numbered;
 mod numbers;
 pub mod production;
@@ -11,8 +12,9 @@ mod tests;
 mod theorems;
 pub mod vocabulary;
 
-pub use board::{Board, arc_label};
+pub use board::{Board, arc_label, bar};
 pub use book::Book;
+pub use directions::Directions;
 pub use numbers::{unnumbered, wanting};
 pub use production::{Occurrence, Production, Rule};
 pub use theorems::{

@@ -1,10 +1,12 @@
 // The numbers of attributes before any pass is planned.
-ghost use Rattle.std.specs.Prelude.{◌≡◌, ℕ, ◌≤◌, ◌&&◌, length, take, nat_lt};
+ghost use Rattle.std.specs.Prelude.{◌≡◌, ℕ, ◌≤◌, ◌&&◌, length, take, nat_lt, if◌then◌else◌, slice_index_or};
 ghost use Rattle.bitset.specs.Sets.{has};
 ghost use Rattle.grammar.specs.Books.{unnumbered, wanting_at};
-ghost use Rattle.grammar.specs.Grammar.{given};
+ghost use Rattle.grammar.specs.Grammar.{given, no_attribute};
 
 use crate::vocabulary::{Attribute, AttributeKind, MOST_ATTRIBUTES};
+use bitset::Places;
+use std::array;
 
 // The number of a given attribute, whose values are there before the first pass.
 const BEFORE_PASSES: u8 = 0;
@@ -17,33 +19,27 @@ pub fn unnumbered(attributes: &[Attribute]) -> [u8; MOST_ATTRIBUTES]
     ensures first { result ≡ unnumbered (take 64 attributes.now) }
     ensures whole { length attributes.now ≤ 64 → result ≡ unnumbered attributes.now }
 {
-    let mut numbers = [NONE; MOST_ATTRIBUTES];
-    for place in 0..attributes.len().min(MOST_ATTRIBUTES) {
-        if is_given(attributes[place].kind) {
-            numbers[place] = BEFORE_PASSES;
-        }
-    }
-    numbers
+    array::from_fn(|place| first_number(attributes, place))
 }
 
-fn is_given(kind: AttributeKind) -> bool
-    ensures { result ≡ given kind }
+fn first_number(attributes: &[Attribute], place: usize) -> u8
+    ensures { result ≡ (if nat_lt place (length attributes.now) && given (slice_index_or attributes.now place no_attribute).kind then 0 else 255) }
 {
-    match kind {
-        AttributeKind::Given => true,
-        AttributeKind::Inherited | AttributeKind::Synthesized => false,
+    match attributes.get(place) {
+        Some(attribute) if attribute.kind == AttributeKind::Given => BEFORE_PASSES,
+        _ => NONE,
     }
 }
 
 // The attributes that want a number, those that are not given, as a set with bit a - 1. Attributes past the
-// most that a grammar may have are not looked at.
-pub fn wanting(attributes: &[Attribute]) -> u64
+// most that a grammar may have have no place in it.
+pub fn wanting(attributes: &[Attribute]) -> Places
     ensures { (p : ℕ) → has result p ≡ (nat_lt p 64 && wanting_at attributes.now p) }
 {
-    let mut wanted = 0;
-    for place in 0..attributes.len().min(MOST_ATTRIBUTES) {
-        if !is_given(attributes[place].kind) {
-            wanted = bitset::with(wanted, place as u32);
+    let mut wanted = Places::default();
+    for (place, attribute) in attributes.iter().enumerate() {
+        if attribute.kind != AttributeKind::Given {
+            wanted = wanted.with(place);
         }
     }
     wanted

@@ -1,5 +1,5 @@
 // Loads a book from the bytes of a table.
-ghost use Rattle.std.specs.Prelude.{◌≡◌, IfOk};
+ghost use Rattle.std.specs.Prelude.{◌≡◌, [], IfOk};
 ghost use Rattle.grammar.specs.Books.{unnumbered as unnumbered_of};
 ghost use Rattle.tables.specs.Reading.{reading};
 ghost use Rattle.loading.specs.Loading.{Loads, Judges};
@@ -7,10 +7,8 @@ ghost use Rattle.loading.specs.Loading.{Loads, Judges};
 use crate::productions::read_productions;
 use crate::symbols::read_vocabulary;
 use grammar::board::BOARD_PLACES;
-use grammar::book::MOST_PASSES;
-use grammar::{Book, unnumbered, wanting};
+use grammar::{Book, Directions, unnumbered, wanting};
 use kinds::ValueKind;
-use plans::Direction;
 use refusal::Refusal;
 use std::alloc::Global;
 use tables::Table;
@@ -22,7 +20,7 @@ pub fn load<K: ValueKind>(heap: Global, bytes: &[u8], kind: &K) -> Result<Book, 
     ensures reading { Loads result (reading bytes.now (K.ValueKind.admitted kind.now)) }
     ensures judges { Judges bytes.now (K.ValueKind.admitted kind.now) result }
     ensures numbers { IfOk result (λ b. b.numbers ≡ unnumbered_of b.vocabulary.attributes.items) }
-    ensures passes { IfOk result (λ b. (b.passes ≡ 0) × (b.planned ≡ 0)) }
+    ensures passes { IfOk result (λ b. (b.passes ≡ 0) × (b.directions ≡ [])) }
 {
     let table = Table::new(bytes)?;
     let head = table.head();
@@ -50,7 +48,6 @@ pub fn load<K: ValueKind>(heap: Global, bytes: &[u8], kind: &K) -> Result<Book, 
         numbers,
         passes: 0,
         unnumbered: wanted,
-        directions: [Direction::Left; MOST_PASSES],
-        planned: 0,
+        directions: Directions::new(),
     })
 }

@@ -1,12 +1,11 @@
 -- The numbering of attributes by places, pass by pass.
-use Rattle.std.proofs.Common.{◌≡◌, ℕ, zero, suc, ◌+◌, ◌-◌, ◌^◌, ◌<◌, ◌≤◌, Bool, true, false, cond, not, ◌&&◌, ltb, ◌⊎◌, List, [], ◌∷◌, ◌++◌, length, get_or, replicate, sym, refl, ap, ◌∙◌, subst, inl, inr, ⊎_elim, add-one, arith}
-use lib.Count.{count_trailing_zeros}
+use Rattle.std.proofs.Common.{◌≡◌, ℕ, zero, suc, ◌+◌, ◌-◌, ◌<◌, ◌≤◌, Bool, true, false, cond, not, ◌&&◌, ltb, ◌⊎◌, List, [], ◌∷◌, ◌++◌, length, get_or, replicate, sym, refl, ap, ◌∙◌, subst, inl, inr, ⊎_elim, add-one, arith}
 use lib.ListN.{get_or-replicate}
 use Rattle.std.proofs.lemmas.Bool.{both_ways, cases_Bool, cases_lt, and_parts, and_from, and_left, and_right, lt-ltb, le-ltb, ltb-true, cond-true, cond-false, not-true, not-false}
 use Rattle.bitset.specs.Sets.{has}
-use Rattle.bitset.proofs.Digits.{has_none, trailing_lowest}
+use Rattle.bitset.proofs.Digits.{has_none, has_some}
 use Rattle.plans.specs.declared.Direction.{Direction}
-use Rattle.plans.specs.declared.Direction.TheVariants.{Left, Right}
+use Rattle.plans.specs.declared.Direction.TheVariants.{Left}
 use Rattle.grammar.specs.declared.vocabulary.Attribute.{Attribute}
 use Rattle.grammar.specs.Grammar.{given, no_attribute}
 use Rattle.grammar.specs.Arcs.{precedence, bar}
@@ -66,8 +65,7 @@ module _ (g : Graph) (ds : List Direction) (count pass : ℕ) (numbers : List �
     attained = ⊎_elim (λ (e : greatest ≡ 0). inl e) (λ (t : (a : ℕ) × (g.wants a ≡ true) × (number_at numbers a ≡ greatest) × (greatest ≤ pass)). inr (t.0, t.1, t.2, omega (arith, t.3, now.planned))) now.attained;
   }
 
-  module _ (chosen : ℕ) (settled : Settled g.precedes (g.barred (direction ds (suc pass))) (has waiting) (has chosen)) (more : pass < length ds)
-      (fits : chosen < 2 ^ 64) (numbers' : List ℕ) (waiting' : ℕ)
+  module _ (chosen : ℕ) (settled : Settled g.precedes (g.barred (direction ds (suc pass))) (has waiting) (has chosen)) (more : pass < length ds) (numbers' : List ℕ) (waiting' : ℕ)
       (given : (a : ℕ) → number_at numbers' a ≡ cond (has chosen a) (suc pass) (number_at numbers a))
       (left : (a : ℕ) → has waiting' a ≡ (has waiting a && not (has chosen a))) where
     now_set : (a : ℕ) → has chosen a ≡ true → number_at numbers' a ≡ suc pass
@@ -112,8 +110,8 @@ module _ (g : Graph) (ds : List Direction) (count pass : ℕ) (numbers : List �
           inr (m.0, m.1, now_kept m.0 (ap (λ x. has x m.0) t.0 ∙ has_none m.0) ∙ m.2 ∙ sym t.1, omega (arith, m.3)))
           now.attained)
           (λ (t : (0 < chosen) × (greatest' ≡ suc pass)).
-          let low = trailing_lowest 64 chosen fits t.0 in
-          inr (count_trailing_zeros 64 chosen, wants_chosen _ low.there, now_set _ low.there ∙ sym t.1, omega arith))
+          let one = has_some chosen t.0 in
+          inr (one.0, wants_chosen one.0 one.1, now_set one.0 one.1 ∙ sym t.1, omega arith))
           top;
     }
 
@@ -189,37 +187,32 @@ module _ (board : List ℕ) (attributes : List Attribute) (ds : List Direction) 
     (now : Going (place_graph board attributes) ds (length attributes) pass numbers greatest waiting)
     (predecessors left right : List ℕ)
     (predecessors_are : (a b : ℕ) → a < 64 → b < 64 → holds predecessors a b ≡ marked board precedence a b)
-    (left_are : (a b : ℕ) → a < 64 → b < 64 → holds left a b ≡ marked board (bar Left) a b)
-    (right_are : (a b : ℕ) → a < 64 → b < 64 → holds right a b ≡ marked board (bar Right) a b)
+    (bars_are : (d : Direction) (a b : ℕ) → a < 64 → b < 64 → holds (by d left right) a b ≡ marked board (bar d) a b)
     (few : length attributes ≤ 64) where
   place : (a : ℕ) → has waiting a ≡ true → a < 64
   unfolding wants_at
   place a h = omega (arith, ltb-true a (length attributes) (and_parts (ltb a (length attributes)) _ (now.stage.wanted a h)).0)
 
-  bars_is : (d : Direction) (a b : ℕ) → a < 64 → b < 64 → holds (by d left right) a b ≡ marked board (bar d) a b
-  bars_is Left = left_are
-  bars_is Right = right_are
-
   settled_board : (d : Direction) (chosen : ℕ) → Settled (holds predecessors) (holds (by d left right)) (has waiting) (has chosen)
       → Settled (marked board precedence) (marked board (bar d)) (has waiting) (has chosen)
   settled_board d chosen = settled_like (holds predecessors) (marked board precedence) (holds (by d left right)) (marked board (bar d)) (has waiting)
       (λ a b wa wb. sym (predecessors_are a b (place a wa) (place b wb)))
-      (λ a b wa wb. sym (bars_is d a b (place a wa) (place b wb)))
+      (λ a b wa wb. sym (bars_are d a b (place a wa) (place b wb)))
       (has chosen)
 
   pub going_pass : (d : Direction) → pass < length ds → d ≡ get_or ds pass Left
-      → (chosen : ℕ) → chosen < 2 ^ 64 → Settled (holds predecessors) (holds (by d left right)) (has waiting) (has chosen)
+      → (chosen : ℕ) → Settled (holds predecessors) (holds (by d left right)) (has waiting) (has chosen)
       → (numbers' : List ℕ) (waiting' greatest' : ℕ)
       → ((a : ℕ) → number_at numbers' a ≡ cond (has chosen a) (pass + 1) (number_at numbers a))
       → ((a : ℕ) → has waiting' a ≡ (has waiting a && not (has chosen a)))
       → Top chosen greatest (pass + 1) greatest'
       → Going (place_graph board attributes) ds (length attributes) (pass + 1) numbers' greatest' waiting'
-  going_pass d more at chosen small-chosen settled numbers' waiting' greatest' assigned rest top =
+  going_pass d more at chosen settled numbers' waiting' greatest' assigned rest top =
       let back : pass ≡ pass + 1 - 1 = omega arith in
       let here : d ≡ direction ds (pass + 1) = at ∙ ap (λ n. get_or ds n Left) back in
       subst (λ n. (d ≡ direction ds n) → ((a : ℕ) → number_at numbers' a ≡ cond (has chosen a) n (number_at numbers a)) → Top chosen greatest n greatest' → Going (place_graph board attributes) ds (length attributes) n numbers' greatest' waiting')
       (sym (add-one pass))
       (λ is set' top'. going_next (place_graph board attributes) ds (length attributes) pass numbers greatest waiting now chosen
       (subst (λ (x : Direction). Settled (marked board precedence) (marked board (bar x)) (has waiting) (has chosen)) is (settled_board d chosen settled))
-      more small-chosen numbers' waiting' set' rest greatest' top')
+      more numbers' waiting' set' rest greatest' top')
       here assigned top

@@ -3,31 +3,32 @@ ghost use Rattle.std.specs.Prelude.{◌≡◌, ℕ, ◌<◌, ◌&&◌, nat_lt};
 ghost use Rattle.bitset.specs.Sets.{has};
 ghost use Rattle.numbering.specs.Places.{marked, holds};
 
+use bitset::Places;
 use grammar::Board;
 use grammar::vocabulary::MOST_ATTRIBUTES;
 
 // For each attribute a set of attributes, all by places.
-pub(crate) type Columns = [u64; MOST_ATTRIBUTES];
+pub(crate) type Columns = [Places; MOST_ATTRIBUTES];
 
 // The sets of one bit of the labels.
 pub(crate) fn columns_of(arcs: &Board, bit: u8) -> Columns
     ensures { (p q : ℕ) → p < 64 → q < 64 → holds result p q ≡ marked arcs.now bit p q }
 {
-    let mut sets = [0; MOST_ATTRIBUTES];
-    for place in 0..MOST_ATTRIBUTES {
-        sets[place] = column(arcs, bit, place);
+    let mut sets = [Places::default(); MOST_ATTRIBUTES];
+    for (place, set) in sets.iter_mut().enumerate() {
+        *set = column(arcs, bit, place);
     }
     sets
 }
 
-fn column(arcs: &Board, bit: u8, place: usize) -> u64
+fn column(arcs: &Board, bit: u8, place: usize) -> Places
     requires { place < 64 }
     ensures { (p : ℕ) → has result p ≡ (nat_lt p 64 && marked arcs.now bit p place) }
 {
-    let mut set = 0;
-    for other in 0..MOST_ATTRIBUTES as u32 {
-        if arcs[MOST_ATTRIBUTES * other as usize + place] & bit != 0 {
-            set = bitset::with(set, other);
+    let mut set = Places::default();
+    for (other, row) in arcs.chunks_exact(MOST_ATTRIBUTES).enumerate() {
+        if row[place] & bit != 0 {
+            set = set.with(other);
         }
     }
     set

@@ -1,16 +1,14 @@
 // The least numbering of a book's attributes.
-ghost use Rattle.std.specs.Prelude.{◌≡◌, ℕ, ◌-◌, ◌≤◌, length, take, if◌then◌else◌, MatchOption, slice_index};
+ghost use Rattle.std.specs.Prelude.{◌≡◌, ℕ, ◌-◌, ◌≤◌, length, if◌then◌else◌, MatchOption, slice_index};
 ghost use Rattle.bitset.specs.Sets.{has, many, Lowest};
 ghost use Rattle.grammar.specs.Numberings.{Least, Numbered, number_of};
 ghost use Rattle.grammar.specs.OfBook.{grammar_of};
 ghost use Rattle.numbering.specs.Books.{Reported, SameGrammar};
 ghost use Rattle.numbering.specs.Places.{place_graph, NumberedPlaces};
 
-use crate::columns::columns_of;
-use crate::directions::{pass_at, write_directions};
-use crate::passes::computed_in;
-use grammar::board::{BARRED_LEFT, BARRED_RIGHT, PRECEDES};
-use grammar::book::MOST_PASSES;
+use crate::directions::{FIRST_PASS, directions_of};
+use crate::passes::Relations;
+use bitset::Places;
 use grammar::vocabulary::MOST_ATTRIBUTES;
 use grammar::{Attribute, Board, Book};
 use plans::{Direction, Plan};
@@ -19,8 +17,8 @@ use plans::{Direction, Plan};
 pub struct Outcome {
     // The greatest number that an attribute has, or 0.
     pub passes: u8,
-    // The attributes that have no number, with bit a - 1 for attribute a.
-    pub unnumbered: u64,
+    // The attributes that have no number, with place a - 1 for attribute a.
+    pub unnumbered: Places,
     // How many these are.
     pub count: u32,
 }
@@ -30,35 +28,30 @@ pub struct Outcome {
 pub fn number<P: Plan>(book: &mut Book, plan: &P, numbering: &mut [u8; MOST_ATTRIBUTES]) -> Outcome
     ensures least { Least (grammar_of book.new) (P.Plan.directions plan.now) (number_of book.new.numbers) }
     ensures numbered { Numbered (grammar_of book.new) (P.Plan.directions plan.now) book.new.numbers book.new.passes book.new.unnumbered }
-    ensures directions { take book.new.planned book.new.directions ≡ P.Plan.directions plan.now }
+    ensures directions { book.new.directions ≡ P.Plan.directions plan.now }
     ensures bytes { numbering.new ≡ book.new.numbers }
     ensures answer { Reported book.new result.passes result.unnumbered result.count }
     ensures same { SameGrammar book.old book.new }
 {
-    let mut directions = [Direction::Left; MOST_PASSES];
-    let planned = write_directions(plan, &mut directions) as usize;
+    let directions = directions_of(plan);
     let outcome = number_places(
         &book.arcs,
         &book.vocabulary.attributes,
-        &directions[..planned],
+        directions.as_slice(),
         numbering,
     );
     book.numbers = *numbering;
     book.passes = outcome.passes;
     book.unnumbered = outcome.unnumbered;
     book.directions = directions;
-    book.planned = planned;
     outcome
 }
 
 // The first attribute that has no number.
-pub fn first_unnumbered(unnumbered: u64) -> Option<u16>
+pub fn first_unnumbered(unnumbered: Places) -> Option<u16>
     ensures { MatchOption result (unnumbered ≡ 0) (λ a. (1 ≤ a) × Lowest unnumbered 64 (a - 1)) }
 {
-    match bitset::first(unnumbered) {
-        None => None,
-        Some(place) => Some(place as u16 + 1),
-    }
+    unnumbered.first().map(|place| place as u16 + 1)
 }
 
 // Works on places: an attribute's place is its number less 1.
@@ -73,39 +66,33 @@ fn number_places(
     ensures places { NumberedPlaces (place_graph arcs.now attributes.now) directions.now (length attributes.now) numbers.new result.passes result.unnumbered }
     ensures count { result.count ≡ many (has result.unnumbered) 64 }
 {
-    let predecessors = columns_of(arcs, PRECEDES);
-    let left_bars = columns_of(arcs, BARRED_LEFT);
-    let right_bars = columns_of(arcs, BARRED_RIGHT);
+    let relations = Relations::of(arcs);
     let mut waiting = grammar::wanting(attributes);
     *numbers = grammar::unnumbered(attributes);
     let mut passes = 0;
-    'passes: for place in 0..directions.len() as u8 {
-        if waiting == 0 {
-            break 'passes;
+    for (pass, direction) in (FIRST_PASS..).zip(directions) {
+        if waiting.is_empty() {
+            break;
         }
-        let direction = directions[place as usize];
-        let chosen = computed_in(direction, &predecessors, &left_bars, &right_bars, waiting);
-        let pass = pass_at(place);
-        if chosen != 0 {
+        let chosen = relations.computed_in(*direction, waiting);
+        if !chosen.is_empty() {
             passes = pass;
         }
         assign(numbers, chosen, pass);
-        waiting = bitset::minus(waiting, chosen);
+        waiting = waiting - chosen;
     }
     Outcome {
         passes,
         unnumbered: waiting,
-        count: bitset::size(waiting),
+        count: waiting.len(),
     }
 }
 
 // Gives the chosen attributes the number of a pass.
-fn assign(numbers: &mut [u8; MOST_ATTRIBUTES], chosen: u64, pass: u8)
+fn assign(numbers: &mut [u8; MOST_ATTRIBUTES], chosen: Places, pass: u8)
     ensures { (p : ℕ) → slice_index numbers.new p ≡ (if has chosen p then pass else slice_index numbers.old p) }
 {
-    for place in 0..MOST_ATTRIBUTES as u32 {
-        if bitset::contains(chosen, place) {
-            numbers[place as usize] = pass;
-        }
+    for place in chosen {
+        numbers[place] = pass;
     }
 }

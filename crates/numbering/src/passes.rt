@@ -1,68 +1,98 @@
 // What one pass can compute. Sets of attributes are by places.
-ghost use Rattle.std.specs.Prelude.{◌≡◌, ℕ, ◌≤◌, true, false, not, ◌&&◌, MatchBool};
+ghost use Rattle.std.specs.Prelude.{◌≡◌, ℕ, ◌<◌, ◌≤◌, true, false, not, ◌&&◌, length, MatchBool};
 ghost use Rattle.bitset.specs.Sets.{has};
-ghost use Rattle.numbering.specs.Places.{holds, by};
+ghost use Rattle.plans.specs.declared.Direction.{Direction};
+ghost use Rattle.grammar.specs.Arcs.{precedence, bar};
+ghost use Rattle.numbering.specs.Places.{holds, marked, by};
 ghost use Rattle.numbering.specs.Settled.{Settled, Swept};
 
-use crate::columns::Columns;
-use grammar::vocabulary::MOST_ATTRIBUTES;
+use crate::columns::{Columns, columns_of};
+use bitset::Places;
+use grammar::Board;
+use grammar::board::{PRECEDES, bar};
 use plans::Direction;
 
-// The attributes that a pass in the direction can compute, of those that wait for a number.
-pub(crate) fn computed_in(
-    direction: Direction,
-    predecessors: &Columns,
-    left_bars: &Columns,
-    right_bars: &Columns,
-    waiting: u64,
-) -> u64
-    ensures { Settled (holds predecessors.now) (holds (by direction left_bars.now right_bars.now)) (has waiting) (has result) }
-{
-    match direction {
-        Direction::Left => settle(predecessors, left_bars, waiting),
-        Direction::Right => settle(predecessors, right_bars, waiting),
-    }
+// What precedes each attribute, and what is barred from it for passes to the left and to the right.
+#[derive(Drop)]
+pub(crate) struct Relations {
+    predecessors: Columns,
+    left_bars: Columns,
+    right_bars: Columns,
 }
 
-// Deletes candidates until none is blocked.
-fn settle(predecessors: &Columns, bars: &Columns, waiting: u64) -> u64
-    ensures { Settled (holds predecessors.now) (holds bars.now) (has waiting) (has result) }
-{
-    let mut candidates = waiting;
-    loop {
-        let rest = sweep(predecessors, bars, waiting, candidates);
-        if rest == candidates {
-            return candidates;
-        }
-        candidates = rest;
-    }
-}
-
-// The candidates less those that are blocked, each looked at once.
-fn sweep(predecessors: &Columns, bars: &Columns, waiting: u64, candidates: u64) -> u64
-    ensures fewer { result ≤ candidates }
-    ensures swept { Swept (holds predecessors.now) (holds bars.now) (has waiting) (has candidates) (has result) (result ≡ candidates) }
-{
-    let mut rest = candidates;
-    for place in 0..MOST_ATTRIBUTES as u32 {
-        let i = place as usize;
-        if bitset::contains(rest, place) && blocked(predecessors[i], bars[i], waiting, rest) {
-            rest = bitset::without(rest, place);
+impl Relations {
+    pub(crate) fn of(arcs: &Board) -> Relations
+        ensures predecessors { (p q : ℕ) → p < 64 → q < 64 → holds result.predecessors p q ≡ marked arcs.now precedence p q }
+        ensures bars { (d : Direction) (p q : ℕ) → p < 64 → q < 64 → holds (by d result.left_bars result.right_bars) p q ≡ marked arcs.now (bar d) p q }
+    {
+        Relations {
+            predecessors: columns_of(arcs, PRECEDES),
+            left_bars: columns_of(arcs, bar(Direction::Left)),
+            right_bars: columns_of(arcs, bar(Direction::Right)),
         }
     }
-    rest
+
+    // The attributes that a pass in the direction can compute, of those that wait for a number.
+    pub(crate) fn computed_in(&self, direction: Direction, waiting: Places) -> Places
+        ensures { Settled (holds self.now.predecessors) (holds (by direction self.now.left_bars self.now.right_bars)) (has waiting) (has result) }
+    {
+        let bars = match direction {
+            Direction::Left => &self.left_bars,
+            Direction::Right => &self.right_bars,
+        };
+        let pass = Pass {
+            predecessors: &self.predecessors,
+            bars,
+            waiting,
+        };
+        pass.settled()
+    }
 }
 
-// Whether one of the predecessors is in the way.
-fn blocked(predecessors: u64, bars: u64, waiting: u64, candidates: u64) -> bool
-    ensures { MatchBool result ((p : ℕ) × (has predecessors p ≡ true) × (has waiting p ≡ true) × ((has candidates p && not (has bars p)) ≡ false)) ((p : ℕ) → has predecessors p ≡ true → has waiting p ≡ true → (has candidates p && not (has bars p)) ≡ true) }
-{
-    bitset::meets(predecessors, in_the_way(bars, waiting, candidates))
+// A pass in one direction: the relations that count in it, and the attributes that wait for a number.
+#[derive(Clone, Copy)]
+struct Pass<'a> {
+    predecessors: &'a Columns,
+    bars: &'a Columns,
+    waiting: Places,
+    ghost whole: { (length predecessors.now ≡ 64) × (length bars.now ≡ 64) },
 }
 
-// What waits, except the candidates that stand behind no bar.
-fn in_the_way(bars: u64, waiting: u64, candidates: u64) -> u64
-    ensures { (p : ℕ) → has result p ≡ (has waiting p && not (has candidates p && not (has bars p))) }
-{
-    bitset::minus(waiting, bitset::minus(candidates, bars))
+impl<'a> Pass<'a> {
+    // Deletes candidates until none is blocked.
+    fn settled(&self) -> Places
+        ensures { Settled (holds self.now.predecessors.now) (holds self.now.bars.now) (has self.now.waiting) (has result) }
+    {
+        let mut candidates = self.waiting;
+        loop {
+            let rest = self.swept(candidates);
+            if rest == candidates {
+                return candidates;
+            }
+            candidates = rest;
+        }
+    }
+
+    // The candidates less those that are blocked, each looked at once.
+    fn swept(&self, candidates: Places) -> Places
+        ensures fewer { result ≤ candidates }
+        ensures swept { Swept (holds self.now.predecessors.now) (holds self.now.bars.now) (has self.now.waiting) (has candidates) (has result) (result ≡ candidates) }
+    {
+        let mut rest = candidates;
+        for place in candidates {
+            if self.blocks(place, rest) {
+                rest = rest.without(place);
+            }
+        }
+        rest
+    }
+
+    // Whether a predecessor is in the way: it waits, and is no candidate that stands behind no bar.
+    fn blocks(&self, place: usize, candidates: Places) -> bool
+        requires { place < 64 }
+        ensures { MatchBool result ((p : ℕ) × (holds self.now.predecessors.now p place ≡ true) × (has self.now.waiting p ≡ true) × ((has candidates p && not (holds self.now.bars.now p place)) ≡ false)) ((p : ℕ) → holds self.now.predecessors.now p place ≡ true → has self.now.waiting p ≡ true → (has candidates p && not (holds self.now.bars.now p place)) ≡ true) }
+    {
+        let in_the_way = self.waiting - (candidates - self.bars[place]);
+        self.predecessors[place].meets(in_the_way)
+    }
 }

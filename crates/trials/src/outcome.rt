@@ -54,7 +54,7 @@ fn show_numbers<W: fmt::Write>(
         write!(f, " {number}")?;
     }
     let passes = answer.passes;
-    let unnumbered = answer.unnumbered;
+    let unnumbered = u64::from(answer.unnumbered);
     let count = answer.count;
     write!(
         f,

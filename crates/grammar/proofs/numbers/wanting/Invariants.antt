@@ -5,4 +5,4 @@ use Rattle.grammar.specs.Books.{wanting_at}
 use Rattle.grammar.proofs.numbers.wanting.Given as goal
 
 abbrev pub invariant-loop-place : goal.invariant-loop-place
-invariant-loop-place l = (p : ℕ) → has l.wanted p ≡ (ltb p l.place && wanting_at l.attributes p)
+invariant-loop-place l = (p : ℕ) → has l.wanted p ≡ (ltb p 64 && (ltb p l.place && wanting_at l.attributes p))

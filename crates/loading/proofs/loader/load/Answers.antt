@@ -1,8 +1,9 @@
-use Rattle.std.proofs.Common.{◌≡◌, true, sym, ◌≤◌, map, length, vec_items, refl, ap, ◌∙◌, inr, arith}
+use Rattle.std.proofs.Common.{◌≡◌, true, sym, ◌≤◌, map, length, vec_items, refl, ap, ◌∙◌, subst, inr, arith}
 use Rattle.std.proofs.lemmas.Result.{err_from_is_err_and}
 use Rattle.grammar.specs.Grammar.{production_view}
-use Rattle.grammar.specs.Books.{unnumbered}
+use Rattle.grammar.specs.Books.{grammar_view, unnumbered}
 use Rattle.tables.specs.Chains.{sized}
+use Rattle.grammar.specs.Numberings.{Numbered}
 use Rattle.tables.proofs.Accepting.{accepted_is_lawful}
 use Rattle.loading.proofs.Whole.{acceptable, judged_refusal, symbols_refused, start_bad, productions_refused, all_read, fresh_book}
 use Rattle.loading.proofs.loader.load.Goals as goal
@@ -49,8 +50,7 @@ invariant_of-result g c =
     record {
       lawful = ∣ lawful ∣₁;
       labelled = c.in_ok-productions.ensures.board;
-      few = omega arith;
-      numbered = ∣ fresh ∣₁;
+      numbered = ∣ subst (λ ds. Numbered (grammar_view c.in_ok-vocabulary.vocabulary c.in_ok-productions.productions) ds c.unnumbered-numbers.result 0 c.wanting-wanted.result) (sym c.new-2.ensures) fresh ∣₁;
     }
 
 pub returns : goal.returns
@@ -66,5 +66,5 @@ returns g c =
       reading = rw (← same) read;
       judges = rw (← same) (acceptable bytes admitted _ read);
       numbers = c.unnumbered-numbers.ensures.whole few ∙ ap unnumbered c.as_slice.ensures.value;
-      passes = (refl, refl);
+      passes = (refl, c.new-2.ensures);
     }

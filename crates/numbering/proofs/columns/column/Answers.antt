@@ -1,22 +1,61 @@
 -- Each turn looks at one label of the column.
-use Rattle.std.proofs.Common.{ℕ, not, ◌&&◌, ◌||◌, eqb, ltb, sym, ap, ◌∙◌, arith}
-use Rattle.std.proofs.lemmas.Bool.{le-ltb, eq-eqb, ne_eqb}
+use Rattle.std.proofs.Common.{◌≡◌, ℕ, ◌+◌, ◌*◌, not, ◌&&◌, ◌||◌, eqb, ltb, get_or, sym, ap, ◌∙◌, arith}
+use lib.Bits.{bit_and}
+use Rattle.std.proofs.lemmas.Bool.{and_left, le-ltb, eq-eqb, ne_eqb}
 use Rattle.bitset.specs.Sets.{has}
 use Rattle.bitset.proofs.Digits.{has_none}
 use Rattle.numbering.specs.Places.{marked}
-use Rattle.numbering.proofs.Filling.{filled, passed}
+use Rattle.numbering.proofs.Filling.{filled, passed, row_at, rest_at, rest_left}
 use Rattle.numbering.proofs.columns.column.Goals as goal
-use Rattle.numbering.proofs.columns.column.Goals.{then-arcs-other-ne0, else-arcs-other-ne0}
 
 pub loop-other-init : goal.loop-other-init
-loop-other-init c p = has_none p ∙ ap (λ b. b && marked c.args.arcs.now c.args.bit p c.args.place) (sym (le-ltb p 0 (omega arith)))
+loop-other-init c =
+    let begun = c.into_iter-other-iterator.ensures.into_iter_gives in
+    let rows = c.enumerate-other-items.ensures.source in
+    let count = c.enumerate-other-items.ensures.count in
+    let all = c.chunks_exact.ensures.rest in
+    rw (begun, count, rows, all, c.default-set.ensures) (
+      c.chunks_exact.ensures.size,
+      omega (arith, c.told-arcs),
+      λ k. let first : k ≡ 0 + k = omega arith in ap (λ n. get_or c.args.arcs.now n 0) first,
+      λ p. has_none p ∙ sym (and_left (ltb p 0) (marked c.args.arcs.now c.args.bit p c.args.place) (le-ltb p 0 (omega arith))),
+    )
+
+pub loop-other-preserved-then-row-place-ne0 : goal.loop-other-preserved-then-row-place-ne0
+unfolding marked
+loop-other-preserved-then-row-place-ne0 c =
+    let steps = c.in-Some.ensures.steps in
+    let it = c.loop-other.other-iterator in
+    let rest = c.next.new.self.iter.rest.now in
+    let inv = c.loop-other.invariant in
+    let split = steps.0.1.0 in
+    let long = steps.0.1.1 ∙ inv.0 in
+    let more = steps.2 in
+    let test = λ (p : ℕ). marked c.args.arcs.now c.args.bit p c.args.place in
+    let here = row_at c.args.arcs.now it.iter.rest.now c.in-Some.row.now rest it.count split long inv.2 c.args.place c.requires in
+    let left = rest_left c.args.arcs.now it.iter.rest.now c.in-Some.row.now rest it.count split long inv.2 in (
+      steps.0.0 ∙ inv.0,
+      omega (arith, inv.1, more, left),
+      λ k. rest_at c.args.arcs.now it.iter.rest.now c.in-Some.row.now rest it.count split long inv.2 k ∙ ap (λ n. get_or c.args.arcs.now (64 * n + k) 0) (sym more),
+      λ p. c.with-set.ensures p ∙ ap (λ n. has c.loop-other.set p || (ltb p 64 && eqb p n)) steps.1 ∙ ap (λ b. b || (ltb p 64 && eqb p it.count)) (inv.3 p)
+          ∙ filled test it.count p (omega (arith, inv.1, left)) (ap not (ne_eqb _ 0 (λ e. c.if-row-place-ne0.true (ap (λ x. bit_and x c.args.bit) here ∙ e)))) ∙ ap (λ n. ltb p n && test p) (sym more),
+    )
 
 pub loop-other-preserved : goal.loop-other-preserved
 unfolding marked
-loop-other-preserved c p =
-    let test = λ (a : ℕ). marked c.args.arcs.now c.args.bit a c.args.place in
-    elim c.if-arcs-other-ne0.branch [
-      | then-arcs-other-ne0 w ↦ ap (λ s. has s p) w.set-is ∙ w.with-set.ensures p ∙ ap (λ b. b || (ltb p 64 && eqb p c.loop-other.other)) (c.loop-other.invariant p)
-          ∙ filled test c.loop-other.other p (omega arith) (ap not (ne_eqb _ 0 w.if-arcs-other-ne0.true))
-      | else-arcs-other-ne0 w ↦ ap (λ s. has s p) w.set-is ∙ c.loop-other.invariant p ∙ passed test c.loop-other.other p (ap not (eq-eqb _ 0 w.if-arcs-other-ne0.false))
-    ]
+loop-other-preserved c =
+    let steps = c.in-Some.ensures.steps in
+    let it = c.loop-other.other-iterator in
+    let rest = c.next.new.self.iter.rest.now in
+    let inv = c.loop-other.invariant in
+    let split = steps.0.1.0 in
+    let long = steps.0.1.1 ∙ inv.0 in
+    let more = steps.2 in
+    let test = λ (p : ℕ). marked c.args.arcs.now c.args.bit p c.args.place in
+    let here = row_at c.args.arcs.now it.iter.rest.now c.in-Some.row.now rest it.count split long inv.2 c.args.place c.requires in
+    let left = rest_left c.args.arcs.now it.iter.rest.now c.in-Some.row.now rest it.count split long inv.2 in (
+      steps.0.0 ∙ inv.0,
+      omega (arith, inv.1, more, left),
+      λ k. rest_at c.args.arcs.now it.iter.rest.now c.in-Some.row.now rest it.count split long inv.2 k ∙ ap (λ n. get_or c.args.arcs.now (64 * n + k) 0) (sym more),
+      λ p. inv.3 p ∙ passed test it.count p (ap not (eq-eqb _ 0 (ap (λ x. bit_and x c.args.bit) (sym here) ∙ c.if-row-place-ne0.false))) ∙ ap (λ n. ltb p n && test p) (sym more),
+    )
