@@ -8,6 +8,8 @@
 use plans::written::Written;
 use std::alloc::{AllocError, AllocFailed, Global};
 use std::fmt;
+use std::num::ParseIntError;
+use std::str::FromStr;
 use trees::Node;
 
 const RECORD_BYTES: usize = 12;
@@ -45,6 +47,9 @@ enum Word {
     NextPlace,
 }
 
+#[derive(Clone, Copy)]
+struct Record([Word; WORDS]);
+
 impl From<AllocError> for Unreadable {
     fn from(_error: AllocError) -> Unreadable {
         Unreadable::Memory
@@ -54,6 +59,12 @@ impl From<AllocError> for Unreadable {
 impl<T: Drop> From<AllocFailed<T>> for Unreadable {
     fn from(_refused: AllocFailed<T>) -> Unreadable {
         Unreadable::Memory
+    }
+}
+
+impl From<ParseIntError> for Unreadable {
+    fn from(_error: ParseIntError) -> Unreadable {
+        Unreadable::Number
     }
 }
 
@@ -70,16 +81,59 @@ impl fmt::Display for Unreadable {
     }
 }
 
+impl FromStr for Kind {
+    type Err = Unreadable;
+
+    fn from_str(text: &str) -> Result<Kind, Unreadable> {
+        match text {
+            "lengths" => Ok(Kind::Lengths),
+            "marks" => Ok(Kind::Marks),
+            _ => Err(Unreadable::Kind),
+        }
+    }
+}
+
+impl FromStr for Word {
+    type Err = Unreadable;
+
+    fn from_str(text: &str) -> Result<Word, Unreadable> {
+        match text {
+            "+" => Ok(Word::NextPlace),
+            _ => Ok(Word::Is(text.parse()?)),
+        }
+    }
+}
+
+impl FromStr for Record {
+    type Err = Unreadable;
+
+    fn from_str(text: &str) -> Result<Record, Unreadable> {
+        let mut words = [Word::Is(0); WORDS];
+        let mut places = words.iter_mut();
+        for text in text.split_whitespace() {
+            let place = places.next().ok_or(Unreadable::Words)?;
+            *place = text.parse()?;
+        }
+        Ok(Record(words))
+    }
+}
+
+impl Record {
+    // What its words say, where the next record has the place given.
+    fn numbers(self, next_place: usize) -> [u16; WORDS] {
+        self.0.map(|word| match word {
+            Word::Is(number) => number,
+            Word::NextPlace => u16::try_from(next_place).unwrap_or(u16::MAX),
+        })
+    }
+}
+
 impl Case {
     // The case in what follows the name on a line.
     pub fn read(heap: Global, text: &str) -> Result<Case, Unreadable> {
         let (kind, text) = text.split_once('|').ok_or(Unreadable::Fields)?;
         let (kind, plan) = kind.trim().split_once(' ').unwrap_or((kind.trim(), ""));
-        let kind = match kind {
-            "lengths" => Kind::Lengths,
-            "marks" => Kind::Marks,
-            _ => return Err(Unreadable::Kind),
-        };
+        let kind = kind.parse()?;
         let plan = plan_of(plan.trim())?;
         let (records, text) = text.split_once('|').unwrap_or((text, "+0"));
         let table = table_of(heap, records)?;
@@ -101,25 +155,19 @@ fn plan_of(letters: &str) -> Result<Option<Written>, Unreadable> {
     if letters.is_empty() {
         return Ok(None);
     }
-    match Written::new(letters.as_bytes()) {
-        Ok(plan) => Ok(Some(plan)),
-        Err(_) => Err(Unreadable::Plan),
-    }
-}
-
-fn number(text: &str) -> Result<u16, Unreadable> {
-    match text.parse::<u16>() {
-        Ok(number) => Ok(number),
-        Err(_) => Err(Unreadable::Number),
-    }
+    Written::new(letters.as_bytes())
+        .map(Some)
+        .map_err(|_| Unreadable::Plan)
 }
 
 fn table_of(heap: Global, text: &str) -> Result<Vec<u8>, Unreadable> {
     let mut table = Vec::new(heap);
     for text in text.split(';') {
-        let (times, words) = repeated(text.trim())?;
+        let (times, record) = repeated(text.trim())?;
         for _ in 0..times {
-            add_record(&mut table, words)?;
+            for number in record.numbers(table.len() / RECORD_BYTES + 1) {
+                table.extend_from_slice(&number.to_le_bytes())?;
+            }
         }
     }
     Ok(table)
@@ -131,68 +179,40 @@ fn nodes_of(heap: Global, text: &str) -> Result<Vec<Node>, Unreadable> {
         return Ok(nodes);
     }
     for text in text.split(';') {
-        let (times, words) = repeated(text.trim())?;
+        let (times, record) = repeated(text.trim())?;
         for _ in 0..times {
-            let next_place = nodes.len() + 1;
+            let [symbol, production, first_child, next_brother, _, _] = record.numbers(
+                nodes.len() + 1,
+            );
             nodes.push(Node {
-                symbol: value(words[0], next_place),
-                production: value(words[1], next_place),
-                first_child: value(words[2], next_place),
-                next_brother: value(words[3], next_place),
+                symbol,
+                production,
+                first_child,
+                next_brother,
             })?;
         }
     }
     Ok(nodes)
 }
 
-// The words of a record, and how often it stands there.
-fn repeated(text: &str) -> Result<(u16, [Word; WORDS]), Unreadable> {
+// A record, and how often it stands there.
+fn repeated(text: &str) -> Result<(u16, Record), Unreadable> {
     let Some(text) = text.strip_prefix('*') else {
-        return Ok((1, words(text)?));
+        return Ok((1, text.parse()?));
     };
     let (times, record) = text.split_once(' ').unwrap_or((text, ""));
-    Ok((number(times)?, words(record)?))
-}
-
-fn value(word: Word, next_place: usize) -> u16 {
-    match word {
-        Word::Is(number) => number,
-        Word::NextPlace => u16::try_from(next_place).unwrap_or(u16::MAX),
-    }
-}
-
-fn words(text: &str) -> Result<[Word; WORDS], Unreadable> {
-    let mut words = [Word::Is(0); WORDS];
-    for (k, text) in text.split_whitespace().enumerate() {
-        if k >= WORDS {
-            return Err(Unreadable::Words);
-        }
-        words[k] = match text {
-            "+" => Word::NextPlace,
-            _ => Word::Is(number(text)?),
-        };
-    }
-    Ok(words)
-}
-
-fn add_record(table: &mut Vec<u8>, words: [Word; WORDS]) -> Result<(), Unreadable> {
-    let next_place = table.len() / RECORD_BYTES + 1;
-    for word in words {
-        table.extend_from_slice(&value(word, next_place).to_le_bytes())?;
-    }
-    Ok(())
+    Ok((times.parse()?, record.parse()?))
 }
 
 // Adds bytes at the end, or cuts them off.
 fn resized(mut table: Vec<u8>, text: &str) -> Result<Vec<u8>, Unreadable> {
     if let Some(cut) = text.strip_prefix('-') {
-        let left = table.len().saturating_sub(usize::from(number(cut)?));
+        let left = table.len().saturating_sub(usize::from(cut.parse::<u16>()?));
         table.truncate(left);
         return Ok(table);
     }
     let added = text.strip_prefix('+').ok_or(Unreadable::Number)?;
-    for _ in 0..number(added)? {
-        table.push(0)?;
-    }
+    let length = table.len() + usize::from(added.parse::<u16>()?);
+    table.resize(length, 0)?;
     Ok(table)
 }

@@ -6,42 +6,33 @@ mod outcome;
 
 use crate::case::{Case, Kind};
 use crate::outcome::Outcome;
-use grammar::Book;
 use grammar::vocabulary::MOST_ATTRIBUTES;
 use kinds::lengths::Lengths;
 use kinds::marks::Marks;
 use loading::load;
 use numbering::number;
+use refusal::Refusal;
 use std::alloc::Global;
 use std::io;
 use trees::check_tree;
 
-fn outcome_of(heap: Global, case: &Case) -> Outcome {
+// What comes of the case's table, and of its nodes or its plan, if it has any.
+fn outcome_of(heap: Global, case: &Case) -> Result<Outcome, Refusal> {
     let table = case.table.as_slice();
-    let loaded = match case.kind {
+    let mut book = match case.kind {
         Kind::Lengths => load(heap, table, &Lengths),
         Kind::Marks => load(heap, table, &Marks),
-    };
-    match loaded {
-        Ok(book) => tried(book, case),
-        Err(refusal) => Outcome::Refused(refusal),
-    }
-}
-
-// What comes of the case's nodes or plan, if it has any.
-fn tried(mut book: Book, case: &Case) -> Outcome {
+    }?;
     if let Some(nodes) = &case.nodes {
-        return match check_tree(&book, nodes.as_slice()) {
-            Ok(()) => Outcome::Tree,
-            Err(refusal) => Outcome::Refused(refusal),
-        };
+        check_tree(&book, nodes.as_slice())?;
+        return Ok(Outcome::Tree);
     }
     let Some(plan) = case.plan else {
-        return Outcome::Accepted(book);
+        return Ok(Outcome::Accepted(book));
     };
     let mut numbers = [0; MOST_ATTRIBUTES];
     let answer = number(&mut book, &plan, &mut numbers);
-    Outcome::Numbered(book, answer)
+    Ok(Outcome::Numbered(book, answer))
 }
 
 // A line that is no case is reported, and the run goes on.
@@ -49,10 +40,10 @@ fn try_line(rt: &HostRuntime, line: &str) -> io::Result<()> {
     let (name, text) = line.split_once('|').unwrap_or((line, ""));
     let name = name.trim();
     match Case::read(rt.alloc(), text) {
-        Ok(case) => {
-            let outcome = outcome_of(rt.alloc(), &case);
-            println!(rt; "{name}: {outcome}")
-        }
+        Ok(case) => match outcome_of(rt.alloc(), &case) {
+            Ok(outcome) => println!(rt; "{name}: {outcome}"),
+            Err(refusal) => println!(rt; "{name}: {refusal}"),
+        },
         Err(fault) => println!(rt; "{name}: cannot be read: {fault}"),
     }
 }

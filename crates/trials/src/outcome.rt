@@ -1,9 +1,7 @@
-// What came of loading a table, as it is printed.
-ghost use Rattle.std.specs.Prelude.{◌≤◌};
-
+// What came of a table that is accepted, as it is printed.
 use grammar::Book;
+use grammar::vocabulary::MOST_ATTRIBUTES;
 use numbering::Outcome as Answer;
-use refusal::{Place, Refusal};
 use std::fmt;
 
 // The arcs of books with more attributes are not printed.
@@ -14,7 +12,6 @@ pub enum Outcome {
     Accepted(Book),
     Numbered(Book, Answer),
     Tree,
-    Refused(Refusal),
 }
 
 impl fmt::Display for Outcome {
@@ -23,25 +20,11 @@ impl fmt::Display for Outcome {
             Outcome::Accepted(book) => show_book(book, f),
             Outcome::Tree => f.write_str("a derivation tree"),
             Outcome::Numbered(book, answer) => show_numbers(book, *answer, f),
-            Outcome::Refused(refusal) => show_refusal(*refusal, f),
         }
     }
 }
 
-fn show_refusal<W: fmt::Write>(refusal: Refusal, f: &mut fmt::Formatter<W>) -> fmt::Result {
-    let number = refusal.number();
-    match refusal.place() {
-        Place::At(place) => write!(f, "refused {number} at {place}"),
-        Place::Instance(site) => {
-            let node = site.node;
-            let attribute = site.attribute;
-            write!(
-                f,
-                "refused {number} at attribute {attribute} of node {node}"
-            )
-        }
-    }
-}
+// Functions, since books and answers are types of other crates.
 
 // The numbers of the attributes, the greatest one, and the set of the unnumbered with their count.
 fn show_numbers<W: fmt::Write>(
@@ -49,13 +32,16 @@ fn show_numbers<W: fmt::Write>(
     answer: Answer,
     f: &mut fmt::Formatter<W>,
 ) -> fmt::Result {
-    write!(f, "numbers")?;
+    f.write_str("numbers")?;
     for number in book.numbers.iter().take(book.vocabulary.attributes.len()) {
         write!(f, " {number}")?;
     }
-    let passes = answer.passes;
-    let unnumbered = u64::from(answer.unnumbered);
-    let count = answer.count;
+    let Answer {
+        passes,
+        unnumbered,
+        count,
+    } = answer;
+    let unnumbered = u64::from(unnumbered);
     write!(
         f,
         "; passes {passes}; unnumbered {unnumbered}, {count} of them"
@@ -77,13 +63,15 @@ fn show_book<W: fmt::Write>(book: &Book, f: &mut fmt::Formatter<W>) -> fmt::Resu
 }
 
 // The labels that are not blank, by the numbers of the attributes.
-fn show_arcs<W: fmt::Write>(book: &Book, count: usize, f: &mut fmt::Formatter<W>) -> fmt::Result
-    requires { count ≤ 8 }
-{
-    for a in 0..count {
-        for b in 0..count {
-            let label = book.arcs[64 * a + b];
-            if label != 0 {
+fn show_arcs<W: fmt::Write>(book: &Book, count: usize, f: &mut fmt::Formatter<W>) -> fmt::Result {
+    for (a, row) in book
+        .arcs
+        .chunks_exact(MOST_ATTRIBUTES)
+        .take(count)
+        .enumerate()
+    {
+        for (b, label) in row.iter().take(count).enumerate() {
+            if *label != 0 {
                 write!(f, "; {}>{} {label}", a + 1, b + 1)?;
             }
         }
