@@ -1,8 +1,9 @@
 -- The lines of a book's attributes, one after another.
-use Rattle.std.proofs.Common.{◌≡◌, ℕ, ◌+◌, ◌-◌, ◌*◌, ◌<◌, ◌≤◌, List, ◌++◌, length, get_or, drop, vec_items, sym, ap, ◌∙◌, zero-add, arith, Iter}
+use Rattle.std.proofs.Common.{◌≡◌, ℕ, ◌+◌, ◌-◌, ◌*◌, ◌<◌, ◌≤◌, List, ◌++◌, length, get_or, drop, vec_items, sym, ap, ◌∙◌, zero-add, arith, Bor, Iter, Option, Some}
 use Rattle.std.proofs.iter.Yields.{fronts}
 use Rattle.std.proofs.lemmas.Iterator.{zips, YieldsList, YieldsList-from_slice, YieldsList-from_zip}
-use Rattle.std.proofs.lemmas.Iterator.Consumers.{YieldsList-from_enumerate}
+use Rattle.std.proofs.lemmas.Iterator.Consumers.{YieldsList-from_enumerate, YieldsList-turn}
+use Rattle.std.specs.Iterator.{Yields}
 use Rattle.std.specs.Iterator.Adapters.{enumerate_count, enumerate_source, enumerate_steps, zip_first, zip_second}
 use Rattle.std.specs.List.{enumerate_from, zip}
 use Rattle.std.specs.Slice.Iter.{iter_rest}
@@ -30,18 +31,16 @@ numbered xs numbers = enumerate_from 0 (zip xs numbers)
 pub length-numbered : (xs : List Attribute) (numbers : List ℕ) → length xs ≤ length numbers → length (numbered xs numbers) ≡ length xs
 length-numbered xs numbers h = omega (arith, length-enumerate_from 0 (zip xs numbers), length-zip xs numbers)
 
+abbrev pub shown : ℕ × (Bor Attribute × Bor ℕ) → ℕ × (Attribute × ℕ)
+shown p = (p.0, (p.1.0.now, p.1.1.now))
+
 pub each_numbered : {s : Enumerate (Zip (Iter Attribute) (Iter ℕ))} (xs : List Attribute) (numbers : List ℕ)
     → iter_rest (zip_first (enumerate_source s)) ≡ xs → iter_rest (zip_second (enumerate_source s)) ≡ numbers → enumerate_count s ≡ 0
-    → YieldsList {B = ℕ × (Attribute × ℕ)} (enumerate_steps (zips fronts fronts)) (λ p. (p.0, (p.1.0.now, p.1.1.now))) s (numbered xs numbers)
+    → YieldsList {B = ℕ × (Attribute × ℕ)} (enumerate_steps (zips fronts fronts)) shown s (numbered xs numbers)
 each_numbered xs numbers e f k =
     YieldsList-from_enumerate (YieldsList-from_zip (YieldsList-from_slice xs e) (YieldsList-from_slice numbers f)) k
 
--- the lines of the first i attributes are written; those that are left give the rest
-pub record Written (numbers : List ℕ) (xs : List Attribute) (i : ℕ) (page : List ℕ) : Type 0 where
-  pub whole : page ++ attribute_lines numbers (i + 1) (drop i xs) ≡ attribute_lines numbers 1 xs
-  pub room : length page ≤ 13 * i
-
-pub item_at : (numbers : List ℕ) (xs : List Attribute) (i : ℕ) (item : ℕ × (Attribute × ℕ)) → length xs ≤ length numbers
+item_at : (numbers : List ℕ) (xs : List Attribute) (i : ℕ) (item : ℕ × (Attribute × ℕ)) → length xs ≤ length numbers
     → (i < length (numbered xs numbers)) × (item ≡ get_or (numbered xs numbers) i item)
     → (i < length xs) × (item ≡ (i, (get_or xs i item.1.0, get_or numbers i 0)))
 item_at numbers xs i item few t =
@@ -54,6 +53,21 @@ item_at numbers xs i item few t =
           ∙ ap (λ p. (0 + i, p)) (get_or-zip xs numbers i d.1 l k)
           ∙ ap (λ j. (j, (get_or xs i item.1.0, get_or numbers i 0))) (zero-add i),
     )
+
+-- one turn of the loop over them, which has yielded the ones before
+pub next_numbered : {s : Enumerate (Zip (Iter Attribute) (Iter ℕ))} (xs : List Attribute) (numbers : List ℕ)
+    → YieldsList {B = ℕ × (Attribute × ℕ)} (enumerate_steps (zips fronts fronts)) shown s (numbered xs numbers)
+    → length xs ≤ length numbers
+    → (before : List (ℕ × (Bor Attribute × Bor ℕ))) (t u : Enumerate (Zip (Iter Attribute) (Iter ℕ))) → Yields (enumerate_steps (zips fronts fronts)) s before t
+    → (r : Option (ℕ × (Bor Attribute × Bor ℕ))) (x : ℕ × (Bor Attribute × Bor ℕ)) → r ≡ Some x → enumerate_steps (zips fronts fronts) t r u
+    → (length before < length xs) × (shown x ≡ (length before, (get_or xs (length before) x.1.0.now, get_or numbers (length before) 0)))
+next_numbered xs numbers each few before t u y r x e turn =
+    item_at numbers xs (length before) (shown x) few (YieldsList-turn each before t y r u x e turn)
+
+-- the lines of the first i attributes are written; those that are left give the rest
+pub record Written (numbers : List ℕ) (xs : List Attribute) (i : ℕ) (page : List ℕ) : Type 0 where
+  pub whole : page ++ attribute_lines numbers (i + 1) (drop i xs) ≡ attribute_lines numbers 1 xs
+  pub room : length page ≤ 13 * i
 
 pub one_written : (numbers : List ℕ) (xs : List Attribute) (i : ℕ) (p q : List ℕ) (item : ℕ × (Attribute × ℕ))
     → (i < length xs) × (item ≡ (i, (get_or xs i item.1.0, get_or numbers i 0)))

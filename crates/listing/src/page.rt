@@ -49,7 +49,6 @@ impl Page {
     }
 
     // Writes a number in base ten. By hand, since std does not promise that `write!` never answers an error.
-    #[tactic(auto, using(crate::proofs::Digits::front_digits, crate::proofs::Digits::one_digit, std::proofs::lemmas::Fmt::decimal_digit, std::proofs::lemmas::Fmt::decimal_step))]
     pub(crate) fn number(&mut self, n: usize)
         requires { length self.old + length (decimal n) ≤ 843 }
         ensures { self.new ≡ self.old ++ decimal n }

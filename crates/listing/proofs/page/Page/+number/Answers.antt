@@ -6,6 +6,9 @@ use Rattle.listing.proofs.Digits.{front_digits, one_digit}
 use Rattle.listing.proofs.page.Page.+number.Goals as goal
 use Rattle.listing.proofs.page.Page.+number.Goals.{then-n-ge10, else-n-ge10}
 
+pub number-requires : goal.number-requires
+number-requires t c = grind (arith, front_digits)
+
 pub write-requires : goal.write-requires
 write-requires t c =
     elim c.if-n-ge10.branch [
