@@ -1,7 +1,7 @@
 // Sets of at most 64 places, each set one word.
 #![tactic(auto)]
 
-ghost use Rattle.std.specs.Prelude.{◌≡◌, ℕ, ◌^◌, ◌<◌, ◌≤◌, ◌↔◌, IsTrue, true, false, not, ◌&&◌, ◌||◌, MatchBool, MatchOption, ◌==◌, nat_lt};
+ghost use Rattle.std.specs.Prelude.{◌≡◌, ℕ, ◌^◌, ◌<◌, ◌≤◌, true, false, not, ◌&&◌, ◌||◌, MatchBool, MatchOption, ◌==◌, nat_lt};
 ghost use Rattle.std.specs.Iterator.{at_most};
 ghost use Rattle.bitset.specs.Sets.{has, many, Lowest, TakesLowest};
 
@@ -78,16 +78,16 @@ impl Places {
     }
 
     pub fn is_empty(self) -> bool
-        ensures { IsTrue result ↔ (self ≡ 0) }
+        ensures { MatchBool result (self ≡ 0) ((p : ℕ) × (has self p ≡ true)) }
     {
-        self == Places::default()
+        self.word == 0
     }
 
     // The lowest place of the set.
     pub fn first(self) -> Option<usize>
         ensures { MatchOption result (self ≡ 0) (λ t. Lowest self 64 t) }
     {
-        if self.word == 0 {
+        if self.is_empty() {
             None
         } else {
             Some(self.word.trailing_zeros() as usize)

@@ -11,7 +11,7 @@ use std::array;
 // The number of a given attribute, whose values are there before the first pass.
 const BEFORE_PASSES: u8 = 0;
 
-// The number that stands for none.
+// The number that stands for none: callers have a byte for each attribute, and no Option.
 const NONE: u8 = 255;
 
 // Attributes past the most that a grammar may have are not looked at.

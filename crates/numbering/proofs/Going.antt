@@ -3,7 +3,7 @@ use Rattle.std.proofs.Common.{◌≡◌, ℕ, zero, suc, ◌+◌, ◌-◌, ◌<�
 use lib.ListN.{get_or-replicate}
 use Rattle.std.proofs.lemmas.Bool.{both_ways, cases_Bool, cases_lt, and_parts, and_from, and_left, and_right, lt-ltb, le-ltb, ltb-true, cond-true, cond-false, not-true, not-false}
 use Rattle.bitset.specs.Sets.{has}
-use Rattle.bitset.proofs.Digits.{has_none, has_some}
+use Rattle.bitset.proofs.Digits.{has_none}
 use Rattle.plans.specs.declared.Direction.{Direction}
 use Rattle.plans.specs.declared.Direction.TheVariants.{Left}
 use Rattle.grammar.specs.declared.vocabulary.Attribute.{Attribute}
@@ -86,7 +86,7 @@ module _ (g : Graph) (ds : List Direction) (count pass : ℕ) (numbers : List �
         go true false h e = h
         go false y h e = refl
 
-    pub going_next : (greatest' : ℕ) → ((chosen ≡ 0) × (greatest' ≡ greatest)) ⊎ ((0 < chosen) × (greatest' ≡ suc pass))
+    pub going_next : (greatest' : ℕ) → ((chosen ≡ 0) × (greatest' ≡ greatest)) ⊎ (((c : ℕ) × (has chosen c ≡ true)) × (greatest' ≡ suc pass))
         → Going g ds count (suc pass) numbers' greatest' waiting'
     going_next greatest' top = record {
       stage = next g ds pass (number_at numbers) (has waiting) now.stage (has chosen) settled more (number_at numbers') (has waiting') now_set now_kept left;
@@ -96,11 +96,11 @@ module _ (g : Graph) (ds : List Direction) (count pass : ℕ) (numbers : List �
       upper = λ a w h. ⊎_elim
           (λ (e : has chosen a ≡ true). ⊎_elim
           (λ (t : (chosen ≡ 0) × (greatest' ≡ greatest)). absurd (both_ways (has chosen a) (ap (λ x. has x a) t.0 ∙ has_none a) e))
-          (λ (t : (0 < chosen) × (greatest' ≡ suc pass)). omega (arith, now_set a e))
+          (λ (t : ((c : ℕ) × (has chosen c ≡ true)) × (greatest' ≡ suc pass)). omega (arith, now_set a e))
           top)
           (λ (e : has chosen a ≡ false). let old = before_now a h e in ⊎_elim
           (λ (t : (chosen ≡ 0) × (greatest' ≡ greatest)). omega (arith, now_kept a e, now.upper a w old))
-          (λ (t : (0 < chosen) × (greatest' ≡ suc pass)). omega (arith, now_kept a e, now.stage.so_far a w old))
+          (λ (t : ((c : ℕ) × (has chosen c ≡ true)) × (greatest' ≡ suc pass)). omega (arith, now_kept a e, now.stage.so_far a w old))
           top)
           (cases_Bool (has chosen a));
       attained = ⊎_elim
@@ -109,9 +109,8 @@ module _ (g : Graph) (ds : List Direction) (count pass : ℕ) (numbers : List �
           (λ (m : (a : ℕ) × (g.wants a ≡ true) × (number_at numbers a ≡ greatest) × (greatest ≤ pass)).
           inr (m.0, m.1, now_kept m.0 (ap (λ x. has x m.0) t.0 ∙ has_none m.0) ∙ m.2 ∙ sym t.1, omega (arith, m.3)))
           now.attained)
-          (λ (t : (0 < chosen) × (greatest' ≡ suc pass)).
-          let one = has_some chosen t.0 in
-          inr (one.0, wants_chosen one.0 one.1, now_set one.0 one.1 ∙ sym t.1, omega arith))
+          (λ (t : ((c : ℕ) × (has chosen c ≡ true)) × (greatest' ≡ suc pass)).
+          inr (t.0.0, wants_chosen t.0.0 t.0.1, now_set t.0.0 t.0.1 ∙ sym t.1, omega arith))
           top;
     }
 
@@ -181,7 +180,7 @@ module _ (board : List ℕ) (attributes : List Attribute) (waiting : ℕ) (ds : 
 
 -- one pass over the board's columns
 abbrev Top : ℕ → ℕ → ℕ → ℕ → Type 0
-Top chosen greatest n greatest' = ((chosen ≡ 0) × (greatest' ≡ greatest)) ⊎ ((0 < chosen) × (greatest' ≡ n))
+Top chosen greatest n greatest' = ((chosen ≡ 0) × (greatest' ≡ greatest)) ⊎ (((c : ℕ) × (has chosen c ≡ true)) × (greatest' ≡ n))
 
 module _ (board : List ℕ) (attributes : List Attribute) (ds : List Direction) (pass : ℕ) (numbers : List ℕ) (greatest waiting : ℕ)
     (now : Going (place_graph board attributes) ds (length attributes) pass numbers greatest waiting)

@@ -11,4 +11,4 @@ unfolding has
 returns-then-place-lt-PLACES c = rw (← c.self.view_is) (ap (λ n. eqb n 1) (and_mask (c.self.inside.word / 2 ^ c.args.place) 1))
 
 pub returns-else-place-lt-PLACES : goal.returns-else-place-lt-PLACES
-returns-else-place-lt-PLACES c = rw (← c.self.view_is) (le-ltb c.args.place 64 c.if-place-lt-PLACES.false ∙ sym (has_past 64 c.self.inside.word c.args.place c.self.invariant c.if-place-lt-PLACES.false))
+returns-else-place-lt-PLACES c = rw (← c.self.view_is) (le-ltb c.args.place 64 c.if-place-lt-PLACES.false ∙ sym (has_past c.self.inside.word c.args.place c.self.invariant c.if-place-lt-PLACES.false))

@@ -1,6 +1,7 @@
 -- Each pass numbers what it can compute of the attributes that wait.
-use Rattle.std.proofs.Common.{◌≡◌, ◌+◌, ◌<◌, false, cond, length, get_or, sym, ap, ◌∙◌, inl, inr, arith}
-use Rattle.std.proofs.lemmas.Bool.{both_ways, cases_lt}
+use Rattle.std.proofs.Common.{◌≡◌, ◌+◌, cond, length, get_or, sym, ap, ◌∙◌, inl, inr, arith}
+use Rattle.std.proofs.lemmas.Bool.{both_ways}
+use Rattle.std.proofs.lemmas.Bool.Decides.{when_true, when_false}
 use Rattle.std.proofs.lemmas.List.{length_push, nil_from_length}
 use Rattle.bitset.specs.Sets.{has}
 use Rattle.bitset.proofs.Digits.{has_none}
@@ -28,10 +29,6 @@ loop-pass-preserved c =
     let done = length c.loop-pass.yielded in
     let next = next_direction c.args.directions.now done c.in-Some.direction.now c.next.new.self.b.rest.now (sym inv.2 ∙ steps.1) in
     let pass : c.in-Some.pass ≡ done + 1 = steps.0.0 ∙ inv.1 in
-    let some_chosen : c.is_empty-in-loop-pass.result ≡ false → 0 < c.computed_in-chosen.result = λ no. elim (cases_lt 0 c.computed_in-chosen.result) [
-      | inl l ↦ l
-      | inr l ↦ absurd (both_ways c.is_empty-in-loop-pass.result no (c.is_empty-in-loop-pass.ensures.1 (omega arith)))
-    ] in
     rw more (
       going_pass c.args.arcs.now c.args.attributes.now c.args.directions.now done c.loop-pass.numbers c.loop-pass.passes c.loop-pass.waiting
           inv.0 c.of-relations.result.predecessors c.of-relations.result.left_bars c.of-relations.result.right_bars
@@ -40,8 +37,8 @@ loop-pass-preserved c =
           c.assign.new.numbers c.sub-waiting.result c.if-not-is_empty.passes
           (λ p. c.assign.ensures p ∙ ap (λ n. cond (has c.computed_in-chosen.result p) n (get_or c.loop-pass.numbers p 0)) pass) c.sub-waiting.ensures
           (elim c.if-not-is_empty.branch [
-            | then-not-is_empty w ↦ inr (some_chosen w.if-not-is_empty.true, w.passes-is ∙ pass)
-            | else-not-is_empty w ↦ inl (c.is_empty-in-loop-pass.ensures.0 w.if-not-is_empty.false, w.passes-is)
+            | then-not-is_empty w ↦ inr (when_false _ _ w.if-not-is_empty.true c.is_empty-in-loop-pass.ensures, w.passes-is ∙ pass)
+            | else-not-is_empty w ↦ inl (when_true _ _ w.if-not-is_empty.false c.is_empty-in-loop-pass.ensures, w.passes-is)
           ]),
       steps.0.1 ∙ ap (λ n. n + 1) pass,
       next.2,
@@ -55,5 +52,5 @@ returns-clause-places c =
         | inl past ↦ absurd (omega (arith, past.1, c.loop-pass.invariant.1, c.loop-pass.invariant.0.planned, c.requires.directions))
         | inr over ↦ none_left c.args.directions.now (length c.loop-pass.yielded) (sym c.loop-pass.invariant.2 ∙ nil_from_length _ over.1.0)
       ]
-      | in-Some+then-is_empty w ↦ let z : c.loop-pass.waiting ≡ 0 = w.is_empty.ensures.0 w.if-is_empty.true in absurd (both_ways (has c.loop-pass.waiting p) (ap (λ x. has x p) z ∙ has_none p) waits)
+      | in-Some+then-is_empty w ↦ let z : c.loop-pass.waiting ≡ 0 = when_true _ _ w.if-is_empty.true w.is_empty.ensures in absurd (both_ways (has c.loop-pass.waiting p) (ap (λ x. has x p) z ∙ has_none p) waits)
     ])
