@@ -5,7 +5,6 @@ pub mod FirstNumbers
 pub mod FoundRules
 pub mod Labels
 pub mod Members
-pub mod ByNumber
 pub mod Relations
 pub mod Slots
 pub mod Wants

@@ -4,7 +4,7 @@ ghost use Rattle.bitset.specs.Sets.{has};
 ghost use Rattle.grammar.specs.Books.{unnumbered, wanting_at};
 ghost use Rattle.grammar.specs.Grammar.{given, no_attribute};
 
-use crate::vocabulary::{Attribute, AttributeKind, MOST_ATTRIBUTES};
+use crate::vocabulary::{Attribute, MOST_ATTRIBUTES};
 use bitset::Places;
 use std::array;
 
@@ -26,7 +26,7 @@ fn first_number(attributes: &[Attribute], place: usize) -> u8
     ensures { result ≡ (if nat_lt place (length attributes.now) && given (slice_index_or attributes.now place no_attribute).kind then 0 else 255) }
 {
     match attributes.get(place) {
-        Some(attribute) if attribute.kind == AttributeKind::Given => BEFORE_PASSES,
+        Some(attribute) if attribute.kind.is_given() => BEFORE_PASSES,
         _ => NONE,
     }
 }
@@ -38,7 +38,7 @@ pub fn wanting(attributes: &[Attribute]) -> Places
 {
     let mut wanted = Places::default();
     for (place, attribute) in attributes.iter().enumerate() {
-        if attribute.kind != AttributeKind::Given {
+        if !attribute.kind.is_given() {
             wanted = wanted.with(place);
         }
     }
