@@ -16,7 +16,7 @@ use std::alloc::Global;
 use std::io;
 use std::io::{Read, Write};
 
-const LONGEST_TABLE: u64 = 49152;
+const LONGEST_TABLE: usize = 49152;
 
 const LONGEST_PLAN: u16 = 128;
 
@@ -24,10 +24,11 @@ const LONGEST_PLAN: u16 = 128;
 const LONGEST_LISTING: usize = 1024;
 
 // Bytes past the longest table are read and let go: one too many is enough to have it refused.
-fn read_table(input: &mut impl Read, heap: Global) -> io::Result<Vec<u8>> {
-    let mut bytes = Vec::new(heap);
-    let mut table = input.take(LONGEST_TABLE + 1);
-    if table.read_to_end(&mut bytes)? as u64 > LONGEST_TABLE {
+fn read_table(input: &mut impl Read, heap: Global) -> anyhow::Result<Vec<u8>> {
+    // Room past all that is taken, so that the reads need no more memory.
+    let mut bytes = Vec::with_capacity(heap, LONGEST_TABLE + 2)?;
+    let mut table = input.take(LONGEST_TABLE as u64 + 1);
+    if table.read_to_end(&mut bytes)? > LONGEST_TABLE {
         io::copy(table.into_inner(), &mut io::sink())?;
     }
     Ok(bytes)
