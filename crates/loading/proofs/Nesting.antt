@@ -1,5 +1,5 @@
 -- One rule or production more, by what the code finds on the way.
-use Rattle.std.proofs.Common.{◌≡◌, ℕ, ◌+◌, ◌<◌, ◌≤◌, Bool, true, false, cond, not, ◌⊎◌, List, [], map, Some, Ok, Err, Option, Result, sym, refl, ap, ◌∙◌, inl, inr, arith}
+use Rattle.std.proofs.Common.{◌≡◌, ℕ, ◌+◌, ◌<◌, ◌≤◌, Bool, true, false, cond, ◌⊎◌, List, [], map, Some, Ok, Err, Option, Result, sym, refl, ap, ◌∙◌, inl, inr, arith}
 use Rattle.std.proofs.lemmas.Bool.{cond-true}
 use Rattle.refusal.specs.declared.Refusal.{Refusal}
 use Rattle.refusal.specs.declared.Refusal.TheVariants.{NoSuch, BadRule, OutOfMemory}
@@ -14,10 +14,6 @@ use Rattle.tables.proofs.Along.{Left, stopped}
 use Rattle.tables.specs.Reading.{occurrence, position, argument, wants_rule, finished_rule, rule, finished_production, production}
 use Rattle.loading.specs.Checks.{target_at}
 use Rattle.loading.proofs.Finishing.{same_targets}
-
-not_not : (b : Bool) → not (not b) ≡ b
-not_not true = refl
-not_not false = refl
 
 -- The target of a rule, by the rules before it.
 module _ (bytes : List ℕ) (v : Vocabulary) (admitted : ℕ → ℕ → ℕ → Bool) (left : ℕ) (right : List ℕ) (rules : List RuleCode) (r : Record) (s : List Bool) where

@@ -1,5 +1,5 @@
 -- The whole of a reading from its parts, as the code comes by them, and what it says of the table.
-use Rattle.std.proofs.Common.{◌≡◌, ℕ, ◌≤◌, Bool, true, false, ◌&&◌, ltb, ◌⊎◌, List, [], length, replicate, Ok, Err, Result, sym, ap, ◌∙◌, subst, inl, inr, arith}
+use Rattle.std.proofs.Common.{◌≡◌, ℕ, ◌≤◌, Bool, true, false, ◌&&◌, ltb, ◌⊎◌, List, [], length, replicate, Ok, Err, Result, sym, ap, ◌∙◌, subst, inl, inr}
 use Rattle.std.proofs.lemmas.Bool.{cond-true, cond-false}
 use Rattle.refusal.specs.declared.Refusal.{Refusal}
 use Rattle.refusal.specs.declared.Refusal.TheVariants.{NoSuch, OutOfMemory}
@@ -28,7 +28,7 @@ module _ (bytes : List ℕ) (admitted : ℕ → ℕ → ℕ → Bool) where
       record { sized = p.0; outline = p.3.0; stands = p.3.1; lawful = p.1; admits = p.2 }
 
   never_both : {x : Result Grammar Refusal} (g : Grammar) (e : Refusal) → x ≡ Ok g → x ≡ Err e → ⊥
-  never_both g e p q = let z : ◌≡◌ {A = ℕ} 0 1 = cc in omega arith
+  never_both g e p q = cc
 
   pub judged_refusal : (e : Refusal) → Loads (Err e) (reading bytes admitted) → Judges bytes admitted (Err e)
   judged_refusal e (inl h) = inl h

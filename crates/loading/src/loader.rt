@@ -11,8 +11,8 @@ use grammar::{Book, Directions, unnumbered, wanting};
 use kinds::ValueKind;
 use refusal::Refusal;
 use std::alloc::Global;
-use tables::Table;
 use tables::table::MOST_RECORDS;
+use tables::{HEAD, Table};
 
 // The book that a table holds, with the operations that the value kind admits, or the first
 // fault that is met in reading it. No attribute has a number yet but the given ones.
@@ -27,7 +27,7 @@ pub fn load<K: ValueKind>(heap: Global, bytes: &[u8], kind: &K) -> Result<Book, 
     let mut reached = [false; MOST_RECORDS];
     let vocabulary = read_vocabulary(heap, &table, &mut reached, head.w2, head.next)?;
     if !vocabulary.is_inner(head.w2) {
-        return Err(Refusal::NoSuch { record: 0 });
+        return Err(Refusal::NoSuch { record: HEAD });
     }
     let mut arcs = [0u8; BOARD_PLACES];
     let productions = read_productions(

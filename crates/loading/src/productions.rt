@@ -13,8 +13,7 @@ use grammar::{Board, Production, Vocabulary};
 use kinds::ValueKind;
 use refusal::Refusal;
 use std::alloc::Global;
-use tables::record::HEAD;
-use tables::{Link, Reached, Record, Table};
+use tables::{HEAD, Link, Reached, Record, Table};
 
 const MOST_PRODUCTIONS: usize = 128;
 

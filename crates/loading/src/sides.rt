@@ -64,7 +64,7 @@ impl Sides<'_> {
 
     // The target of the rule at a record, where a rule for it may stand after the others.
     pub(crate) fn target(&self, rules: &Rules, found: Record) -> Result<Occurring, Refusal>
-        ensures { MatchResult result (λ t. next_target self.now rules.now found ≡ Ok t.occurrence) (λ e. next_target self.now rules.now found ≡ Err e) }
+        ensures { MatchResult result (λ t. (next_target self.now rules.now found ≡ Ok t.occurrence) × (t.occurrence ≡ occurrence_of found) × (has_rule (targets_of rules.now) t.occurrence ≡ false)) (λ e. next_target self.now rules.now found ≡ Err e) }
     {
         let target = self.named_by(found)?;
         if target.is_defined() && !rules.have(target) {

@@ -8,8 +8,7 @@ use grammar::vocabulary::MOST_ATTRIBUTES;
 use grammar::{Attribute, AttributeKind, Symbol, SymbolKind, Vocabulary};
 use refusal::Refusal;
 use std::alloc::Global;
-use tables::record::HEAD;
-use tables::{Link, Reached, Record, Table};
+use tables::{HEAD, Link, Reached, Record, Table};
 
 const MOST_SYMBOLS: usize = 48;
 

@@ -1,17 +1,17 @@
 -- A grammar that is read is lawful and admitted, and the table stands for it.
-use Rattle.std.proofs.Common.{◌≡◌, ℕ, ◌%◌, ◌≤◌, Bool, true, false, ◌&&◌, eqb, ltb, leb, List, [], ◌∷◌, ◌++◌, map, length, replicate, Ok, sym, refl, ap, ◌∙◌, subst, arith}
+use Rattle.std.proofs.Common.{◌≡◌, ℕ, ◌≤◌, Bool, true, false, List, [], ◌∷◌, ◌++◌, map, length, replicate, Ok, sym, refl, ap, ◌∙◌, subst, arith}
 use lib.ListN.{length-map, length-replicate}
 use Rattle.std.specs.List.{AllByRecursion}
 use Rattle.refusal.specs.declared.Refusal.TheVariants.{TableSize, NoSuch}
 use Rattle.std.proofs.lemmas.List.{map_push}
 use Rattle.std.proofs.ByRecursion.{All-map, All-weaker}
-use Rattle.std.proofs.lemmas.Bool.{and_parts, eqb-true, ltb-true, leb-true}
 use Rattle.grammar.specs.Grammar.{Vocabulary, Rule, Production, Grammar, is_inner}
 use Rattle.grammar.specs.Lawful.{target, LawfulRule, LawfulProduction, Lawful}
 use Rattle.tables.specs.Chains.{Sized, sized, and_then, word}
 use Rattle.tables.specs.Reading.{Gathered, symbols, productions, after_symbols, whole, value}
 use Rattle.tables.specs.Tables.{RulePlaces, ProductionPlaces, Outline, ChainedRule, ChainedProduction, rule_place, rule_at, production_at, production_records, symbol_records, occurrence_at, joined, all_records, Stands, AdmittedRule, AdmittedProduction, Admitted}
 use Rattle.tables.specs.Theorems.{AcceptedIsLawful}
+use Rattle.tables.proofs.Sizes.{sized_is}
 use Rattle.tables.proofs.Outcomes.{same_value, test_held, both_read, had_value}
 use Rattle.tables.proofs.Marks.{Fresh, fresh_append, apart_from_fresh}
 use Rattle.tables.proofs.Readings.{Held}
@@ -20,12 +20,6 @@ use Rattle.tables.proofs.Productions.{left_of, right_of, GoodProduction, Produce
 use Rattle.tables.proofs.Symbols.{written, Named, symbols_read}
 use Rattle.tables.proofs.Vocabularies.{vocabulary_of, lawful_vocabulary, symbol_words, symbol_counts, attribute_words, symbol_chains}
 use Rattle.tables.proofs.Targets.{New, unique_from_new, all_set, one_rule}
-
-sized_is : (bytes : List ℕ) → sized bytes ≡ true → Sized bytes
-sized_is bytes h =
-    let p = and_parts (eqb (length bytes % 12) 0) (ltb 0 (length bytes) && leb (length bytes) 49152) h in
-    let q = and_parts (ltb 0 (length bytes)) (leb (length bytes) 49152) p.1 in
-    (eqb-true (length bytes % 12) 0 p.0, ltb-true 0 (length bytes) q.0, leb-true (length bytes) 49152 q.1)
 
 module _ (bytes : List ℕ) (small : length bytes ≤ 49152) (v : Vocabulary) (admitted : ℕ → ℕ → ℕ → Bool) where
   -- the rules of a production

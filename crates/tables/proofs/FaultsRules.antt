@@ -1,6 +1,6 @@
 -- Rules among occurrences: which have one, and which lack one.
-use Rattle.std.proofs.Common.{◌≡◌, ℕ, zero, suc, ◌<◌, Bool, true, false, cond, not, ◌&&◌, eqb, ◌⊎◌, List, [], ◌∷◌, map, length, sym, refl, ap, ◌∙◌, inl, inr, ⊎_elim, arith}
-use Rattle.std.proofs.lemmas.Bool.{eqb-true, eq-eqb, and_parts, and_cases, and_from, or_parts, not-true, not-false, both_ways}
+use Rattle.std.proofs.Common.{◌≡◌, ℕ, zero, suc, ◌<◌, Bool, true, false, cond, not, ◌&&◌, eqb, ◌⊎◌, List, [], ◌∷◌, map, length, sym, refl, inl, inr, ⊎_elim, arith}
+use Rattle.std.proofs.lemmas.Bool.{eqb-true, and_parts, and_cases, or_parts, not-true, not-false, both_ways}
 use Rattle.std.proofs.lemmas.Bool.Decides.{nat_tests}
 use Rattle.grammar.specs.declared.production.Occurrence.{Occurrence}
 use Rattle.grammar.specs.Members.{◌∈◌}
@@ -9,21 +9,12 @@ use Rattle.grammar.specs.Grammar.{Vocabulary, occurs, defined, every_below, sett
 use Rattle.tables.specs.Chains.{word}
 use Rattle.tables.specs.Tables.{occurrence_at}
 use Rattle.tables.specs.Faults.{Names, Onward}
-
-same_is : (o p : Occurrence) → same o p ≡ true → p ≡ o
-same_is o p e =
-    let parts = and_parts (eqb o.position p.position) (eqb o.attribute p.attribute) e in
-    let x = eqb-true o.position p.position parts.0 in
-    let y = eqb-true o.attribute p.attribute parts.1 in
-    let at : ℕ → ℕ → Occurrence = λ j a. record { position = j; attribute = a } in
-    ap (λ j. at j p.attribute) (sym x) ∙ ap (at o.position) (sym y)
-
-is_same : (o p : Occurrence) → p ≡ o → same o p ≡ true
-is_same o p e = and_from (eqb o.position p.position) (eqb o.attribute p.attribute) (eq-eqb o.position p.position (cc)) (eq-eqb o.attribute p.attribute (cc))
+use Rattle.grammar.proofs.Slots.{same_is}
+use Rattle.tables.proofs.Targets.{is_same}
 
 pub numbered : (n : ℕ) (ts : List Occurrence) (o : Occurrence) → eqb (numbered_from (suc n) ts o) 0 ≡ false → o ∈ ts
 numbered n [] o e = grind (arith, nat_tests)
-numbered n (t ∷ ts) o e = at_head (same t o) (same_is t o) (numbered (suc n) ts o) e
+numbered n (t ∷ ts) o e = at_head (same t o) (λ h. sym (same_is t o h)) (numbered (suc n) ts o) e
   where
     at_head : (b : Bool) → (b ≡ true → o ≡ t) → (eqb (numbered_from (suc (suc n)) ts o) 0 ≡ false → o ∈ ts)
         → eqb (cond b (suc n) (numbered_from (suc (suc n)) ts o)) 0 ≡ false → (o ≡ t) ⊎ (o ∈ ts)
@@ -32,7 +23,7 @@ numbered n (t ∷ ts) o e = at_head (same t o) (same_is t o) (numbered (suc n) t
 
 pub unnumbered : (n : ℕ) (ts : List Occurrence) (o : Occurrence) → eqb (numbered_from (suc n) ts o) 0 ≡ true → o ∈ ts → ⊥
 unnumbered n [] o e m = m
-unnumbered n (t ∷ ts) o e m = at_head (same t o) (is_same t o) (unnumbered (suc n) ts o) e m
+unnumbered n (t ∷ ts) o e m = at_head (same t o) (λ h. is_same t o (sym h)) (unnumbered (suc n) ts o) e m
   where
     at_head : (b : Bool) → (o ≡ t → b ≡ true) → (eqb (numbered_from (suc (suc n)) ts o) 0 ≡ true → o ∈ ts → ⊥)
         → eqb (cond b (suc n) (numbered_from (suc (suc n)) ts o)) 0 ≡ true → (o ≡ t) ⊎ (o ∈ ts) → ⊥

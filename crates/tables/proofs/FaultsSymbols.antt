@@ -1,41 +1,20 @@
 -- Reading symbols and their attributes: the vocabulary that the table writes, or a fault.
-use Rattle.std.proofs.Common.{◌≡◌, ℕ, suc, ◌+◌, ◌-◌, ◌≤◌, Bool, true, false, cond, eqb, leb, List, [], ◌∷◌, ◌++◌, map, length, replicate, Some, None, Option, sym, refl, ap, ◌∙◌, subst, arith}
+use Rattle.std.proofs.Common.{◌≡◌, ℕ, suc, ◌+◌, ◌-◌, ◌≤◌, Bool, eqb, leb, List, [], ◌∷◌, ◌++◌, map, length, replicate, Some, sym, refl, ap, ◌∙◌, subst, arith}
 use Rattle.std.specs.List.{AllByRecursion}
 use Rattle.std.proofs.lemmas.List.{append-nil, append_assoc, map-append, length-map, length-append, length_push, map_push, replicate_more, length-replicate}
 use Rattle.std.proofs.lemmas.Bool.{leb-true, leb-false}
-use Rattle.std.proofs.lemmas.Bool.Decides.{nat_tests}
 use Rattle.refusal.specs.declared.Refusal.TheVariants.{BadKind}
 use Rattle.grammar.specs.declared.vocabulary.SymbolKind.{SymbolKind}
-use Rattle.grammar.specs.declared.vocabulary.SymbolKind.TheVariants.{Inner, Terminal}
-use Rattle.grammar.specs.declared.vocabulary.AttributeKind.{AttributeKind}
-use Rattle.grammar.specs.declared.vocabulary.AttributeKind.TheVariants.{Inherited, Synthesized, Given}
 use Rattle.grammar.specs.declared.vocabulary.Attribute.{Attribute}
-use Rattle.grammar.specs.Lawful.{may_stand}
 use Rattle.tables.specs.Chains.{word, record_at}
 use Rattle.grammar.specs.Kinds.{symbol_kind, attribute_kind}
 use Rattle.tables.specs.Reading.{require, standing, Gathered, attribute, attributes, symbol, symbols}
 use Rattle.tables.specs.Tables.{Chain, SymbolPlaces, symbol_place, symbol_attributes, ChainedSymbol, joined, symbol_word, attribute_word}
 use Rattle.tables.specs.Faults.{Names, Onward, at_symbol, at_attribute, SymbolRecord, Fault, many_symbols, many_of_one_symbol, many_attributes, wrong_symbol, wrong_attribute, firsts, owners, Written}
+use Rattle.tables.proofs.Words.{symbol_known, attribute_known, standing_known}
 use Rattle.tables.proofs.FaultsComes.{Comes, comes_then, comes_cond, comes_require}
 use Rattle.tables.proofs.FaultsChains.{Marks, marks_onward, nth_to, along_comes}
 use Rattle.tables.proofs.FaultsSpots.{deeper, under, further, next_one}
-
-attribute_word_of : (w : ℕ) (kind : AttributeKind) → attribute_kind w ≡ Some kind → attribute_word kind ≡ w
-attribute_word_of w Inherited e = grind (arith, nat_tests)
-attribute_word_of w Synthesized e = grind (arith, nat_tests)
-attribute_word_of w Given e = grind (arith, nat_tests)
-
-symbol_word_of : (w : ℕ) (kind : SymbolKind) → symbol_kind w ≡ Some kind → symbol_word kind ≡ w
-symbol_word_of w Inner e = grind (arith, nat_tests)
-symbol_word_of w Terminal e = grind (arith, nat_tests)
-
-standing_kind : (symbol : SymbolKind) (starts : Bool) (o : Option AttributeKind) (kind : AttributeKind) → standing symbol starts o ≡ Some kind → o ≡ Some kind
-standing_kind symbol starts None kind e = e
-standing_kind symbol starts (Some k) kind e = allowed (may_stand symbol starts k) e
-  where
-    allowed : (b : Bool) → cond b (Some k) None ≡ Some kind → Some k ≡ Some kind
-    allowed true e = e
-    allowed false e = absurd (let z : ◌≡◌ {A = ℕ} 0 1 = cc in omega arith)
 
 -- the attributes of one symbol, after those of the symbols before it
 record Added (bytes : List ℕ) (n : ℕ) (before : List Attribute) (ps : List ℕ) (b : List Attribute) : Type 0 where
@@ -81,7 +60,7 @@ module _ (bytes : List ℕ) (admitted : ℕ → ℕ → ℕ → Bool) (short : l
       (λ k e. (e, a))
       (λ none. wrong_attribute (suc n) p (suc (length ps)) kind this_symbol is_kind (nth_to bytes p 2 ps i way there) none))
       (λ k s' g.
-      let w = attribute_word_of (word bytes i 1) k (standing_kind kind (eqb (word bytes 0 2) (suc n)) (attribute_kind (word bytes i 1)) k g.0) in (
+      let w = attribute_known (word bytes i 1) k (standing_known kind (eqb (word bytes 0 2) (suc n)) (attribute_kind (word bytes i 1)) k g.0).0 in (
         g.1,
         record {
           kinds = simp (map_push, h.kinds, append_assoc, w);
@@ -184,7 +163,7 @@ module _ (bytes : List ℕ) (admitted : ℕ → ℕ → ℕ → Bool) (short : l
       (λ after s'' end. (
         subst (λ m. Marks bytes (at_symbol (suc (suc m))) (0 + suc (length ps)) s'') (sym same)
             (marks_onward (at_attribute (suc n) (suc (length end.0))) (at_symbol (suc (suc n))) (further (0 ∷ []) (suc n) (suc (length end.0) ∷ []) []) (omega arith) end.2),
-        gathers_more bytes ps found g i k (symbol_word_of (word bytes i 1) k h.0) end.0 after end.1 end.3,
+        gathers_more bytes ps found g i k (symbol_known (word bytes i 1) k h.0) end.0 after end.1 end.3,
       )))
 
   pub symbols_come : (s : List Bool) → Marks bytes (at_symbol 1) 0 s

@@ -1,24 +1,21 @@
 -- Reading a whole table: a refusal names a fault that is there.
-use Rattle.std.proofs.Common.{◌≡◌, ℕ, zero, suc, ◌%◌, ◌≤◌, Bool, true, false, cond, ◌&&◌, eqb, ltb, leb, List, [], ◌∷◌, length, get_or, replicate, Ok, Err, Result, refl, ◌∙◌, subst, arith}
+use Rattle.std.proofs.Common.{◌≡◌, ℕ, suc, ◌≤◌, Bool, true, false, cond, List, [], ◌∷◌, length, get_or, replicate, Ok, Err, Result, refl, ◌∙◌, subst, arith}
 use Rattle.std.proofs.lemmas.List.{length-replicate}
-use Rattle.std.proofs.lemmas.Bool.{and_parts, and_from, leb-true, both_ways, eq-eqb, lt-ltb, le-leb}
+use Rattle.std.proofs.lemmas.Bool.{both_ways}
 use Rattle.refusal.specs.declared.Refusal.{Refusal}
 use Rattle.refusal.specs.declared.Refusal.TheVariants.{TableSize}
 use Rattle.grammar.specs.Grammar.{Grammar, is_inner}
-use Rattle.tables.specs.Chains.{word, Sized, sized}
+use Rattle.tables.specs.Chains.{word, sized}
 use Rattle.tables.specs.Reading.{symbols, productions, over, after_symbols, whole, value}
 use Rattle.tables.specs.Faults.{Spot, at_symbol, at_production, Writes, wrong_start, Fault, RefusalNamesAFault}
+use Rattle.tables.proofs.Sizes.{is_sized, sized_is}
+use Rattle.tables.proofs.Marks.{unmarked}
 use Rattle.tables.proofs.Free.{free_most}
 use Rattle.tables.proofs.FaultsComes.{Comes, comes_then, comes_cond}
 use Rattle.tables.proofs.FaultsChains.{Marks, marks_onward}
 use Rattle.tables.proofs.FaultsSpots.{further}
 use Rattle.tables.proofs.FaultsSymbols.{symbols_come}
 use Rattle.tables.proofs.FaultsProductions.{productions_come}
-
-unmarked : (k m : ℕ) → get_or (replicate k false) m false ≡ false
-unmarked zero m = refl
-unmarked (suc k) zero = refl
-unmarked (suc k) (suc m) = unmarked k m
 
 -- at first nothing is marked
 no_marks : (bytes : List ℕ) (next : Spot) (k : ℕ) → k ≡ 4096 → Marks bytes next 0 (replicate k false)
@@ -43,19 +40,13 @@ whole_comes bytes admitted s short a =
 
 -- the refusal of what comes to a fault
 refused : (Q : Refusal → Type 0) (r : Result (Grammar × List Bool) Refusal) (e : Refusal) → Comes Q (λ _ _. Unit {0}) r → value r ≡ Err e → Q e
-refused Q (Ok p) e c h = absurd (let z : ◌≡◌ {A = ℕ} 0 1 = cc in omega arith)
+refused Q (Ok p) e c h = cc
 refused Q (Err d) e c h = let same : d ≡ e = cc in subst Q same c
-
-is_sized : (bytes : List ℕ) → Sized bytes → sized bytes ≡ true
-is_sized bytes h = and_from _ _ (eq-eqb _ _ h.0) (and_from _ _ (lt-ltb _ _ h.1) (le-leb _ _ h.2))
-
-sized_short : (bytes : List ℕ) → sized bytes ≡ true → length bytes ≤ 49152
-sized_short bytes h = leb-true _ _ (and_parts _ _ (and_parts (eqb (length bytes % 12) 0) (ltb 0 (length bytes) && leb (length bytes) 49152) h).1).1
 
 by_size : (bytes : List ℕ) (admitted : ℕ → ℕ → ℕ → Bool) (e : Refusal) (b : Bool) → sized bytes ≡ b
     → cond b (value (whole bytes admitted (replicate 4096 false))) (Err TableSize) ≡ Err e → Fault bytes admitted e
 by_size bytes admitted e true is h =
-    refused (Fault bytes admitted) (whole bytes admitted (replicate 4096 false)) e (whole_comes bytes admitted (replicate 4096 false) (sized_short bytes is) (no_marks bytes (at_symbol 1) 4096 refl)) h
+    refused (Fault bytes admitted) (whole bytes admitted (replicate 4096 false)) e (whole_comes bytes admitted (replicate 4096 false) (sized_is bytes is).2 (no_marks bytes (at_symbol 1) 4096 refl)) h
 by_size bytes admitted e false is h =
     let same : TableSize ≡ e = cc in
     subst (Fault bytes admitted) same (λ s. both_ways (sized bytes) is (is_sized bytes s))

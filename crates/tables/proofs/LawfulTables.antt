@@ -1,10 +1,10 @@
 -- A table that stands for a lawful grammar whose operations are admitted is accepted, as that grammar.
-use Rattle.std.proofs.Common.{◌≡◌, ℕ, ◌%◌, ◌<◌, ◌≤◌, Bool, true, false, List, [], ◌∷◌, ◌++◌, map, length, get_or, replicate, Ok, sym, ap, ◌∙◌, subst, ap₂, arith, length-append}
+use Rattle.std.proofs.Common.{◌≡◌, ℕ, ◌<◌, ◌≤◌, Bool, false, List, [], ◌∷◌, ◌++◌, map, length, get_or, replicate, Ok, sym, ap, ◌∙◌, subst, ap₂, arith, length-append}
 use lib.ListN.{length-map, length-replicate}
 use Rattle.std.specs.List.{AllByRecursion}
 use Rattle.std.proofs.lemmas.List.{map_push, get_or_default}
 use Rattle.std.proofs.ByRecursion.{All-append, All-map, All-get_or}
-use Rattle.std.proofs.lemmas.Bool.{and_from, cond-true, eq-eqb, lt-ltb, le-leb}
+use Rattle.std.proofs.lemmas.Bool.{cond-true}
 use Rattle.grammar.specs.Grammar.{Vocabulary, Rule, Production, Grammar, is_inner}
 use Rattle.grammar.specs.Lawful.{target, Defined, LawfulRule, LawfulProduction, Lawful}
 use Rattle.tables.specs.Chains.{Sized, sized, and_then, word}
@@ -13,18 +13,15 @@ use Rattle.tables.specs.Tables.{Chain, SymbolPlaces, RulePlaces, ProductionPlace
 use Rattle.tables.specs.Theorems.{LawfulIsAccepted}
 use Rattle.tables.proofs.Free.{free_most}
 use Rattle.tables.proofs.Elements.{all_unmap, all_with}
-use Rattle.tables.proofs.Marks.{reach, Fresh, fresh_left, fresh_right, fresh_from_apart, fresh_few, none_reached}
+use Rattle.tables.proofs.Marks.{reach, Fresh, fresh_left, fresh_right, fresh_from_apart, fresh_few, unmarked}
 use Rattle.tables.proofs.Readings.{Held}
 use Rattle.tables.proofs.Rules.{rule_rest, GoodRule, may_follow, one_rule_more}
 use Rattle.tables.proofs.Productions.{left_of, right_of, GoodProduction, productions_go}
 use Rattle.tables.proofs.Symbols.{total, symbols_go}
 use Rattle.tables.proofs.Vocabularies.{vocabulary_of}
+use Rattle.tables.proofs.Sizes.{is_sized}
 use Rattle.tables.proofs.Targets.{Unique, New, new_from_unique, completed, has_from_one}
 use Rattle.tables.proofs.Written.{vocabulary_is, good_symbols}
-
-is_sized : (bytes : List ℕ) → Sized bytes → sized bytes ≡ true
-is_sized bytes h =
-    and_from _ _ (eq-eqb (length bytes % 12) 0 h.0) (and_from _ _ (lt-ltb 0 (length bytes) h.1) (le-leb (length bytes) 49152 h.2))
 
 -- every record of the outline is one of the table's
 abbrev Low : ℕ → Type 0
@@ -62,7 +59,7 @@ module _ (bytes : List ℕ) (small : length bytes ≤ 49152) where
       (All-append Low (joined (map symbol_records o.symbols)) (joined (map production_records o.productions))
       (low_symbols o.symbols (low_chain (map symbol_place o.symbols) (word bytes 0 0) s.symbol_chain) s.attribute_chains)
       (low_productions o.productions (low_chain (map production_place o.productions) (word bytes 0 1) s.production_chain) s.production_chains))
-      s.apart (λ x m. none_reached x)
+      s.apart (λ x m. unmarked 4096 x)
 
 -- there is room for every chain of rules
 rules_of : (rs : List RulePlaces) → length rs ≤ length (joined (map rule_records rs))

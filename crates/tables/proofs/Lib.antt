@@ -8,6 +8,7 @@ pub mod Leaves
 pub mod Rules
 pub mod Productions
 pub mod Symbols
+pub mod Sizes
 pub mod Words
 pub mod Vocabularies
 pub mod Targets

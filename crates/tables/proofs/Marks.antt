@@ -56,13 +56,10 @@ fresh_from_apart [] s l a h = tt
 fresh_from_apart (x ∷ xs) s l a h =
     (l.0, h x (inl refl), fresh_from_apart xs (set s x true) l.1 a.1 (λ y m. get_or-set_other s x y true false (λ e. a.0 (rw (← e) m)) ∙ h y (inr m)))
 
-pub none_reached : (x : ℕ) → get_or (replicate 4096 false) x false ≡ false
-none_reached x = blank 4096 x
-  where
-    blank : (n x : ℕ) → get_or (replicate n false) x false ≡ false
-    blank zero x = refl
-    blank (suc n) zero = refl
-    blank (suc n) (suc x) = blank n x
+pub unmarked : (n x : ℕ) → get_or (replicate n false) x false ≡ false
+unmarked zero x = refl
+unmarked (suc n) zero = refl
+unmarked (suc n) (suc x) = unmarked n x
 
 -- there are at most as many as there are records
 pub fresh_few : (xs : List ℕ) (s : List Bool) → length s ≡ 4096 → Fresh xs s → length xs ≤ free s

@@ -1,5 +1,5 @@
 -- Rules by their targets: which occurrences have one, and which have only one.
-use Rattle.std.proofs.Common.{◌≡◌, ℕ, zero, suc, ◌+◌, ◌-◌, ◌<◌, ◌≤◌, Bool, true, false, cond, not, ◌&&◌, ◌||◌, eqb, leb, List, [], ◌∷◌, ◌++◌, map, length, get_or, sym, refl, ap, ◌∙◌, ap₂, inl, inr, arith, length-append}
+use Rattle.std.proofs.Common.{◌≡◌, ℕ, zero, suc, ◌+◌, ◌-◌, ◌<◌, ◌≤◌, Bool, true, false, cond, not, ◌&&◌, ◌||◌, eqb, leb, List, [], ◌∷◌, ◌++◌, map, length, get_or, sym, refl, ap, ◌∙◌, inl, inr, arith, length-append}
 use lib.ListN.{length-map}
 use Rattle.std.proofs.lemmas.List.{append_assoc, get_or_at, get_or_append_left, get_or_default, length_push}
 use Rattle.std.proofs.lemmas.Bool.{cases_Bool, cases_order, cases_eq, and_parts, and_from, or_cases, or_left, or_right, not-true, not-false, not_from_false, eqb-true, eq-eqb, both_ways, leb-true}
@@ -7,14 +7,10 @@ use Rattle.grammar.specs.declared.production.Occurrence.{Occurrence}
 use Rattle.grammar.specs.Rules.{same, numbered_from, has_rule}
 use Rattle.grammar.specs.Grammar.{Vocabulary, Rule, is_attribute, attribute, symbol_at, occurs, defined, every_below, settled, complete}
 use Rattle.grammar.specs.Lawful.{target, OneRule}
+use Rattle.grammar.proofs.Slots.{same_is}
 use Rattle.tables.proofs.Vocabularies.{named}
 
-same_is : (o p : Occurrence) → same o p ≡ true → o ≡ p
-same_is o p h =
-    let i = and_parts (eqb o.position p.position) (eqb o.attribute p.attribute) h in
-    ap₂ (λ (x y : ℕ). record { position = x; attribute = y }) (eqb-true o.position p.position i.0) (eqb-true o.attribute p.attribute i.1)
-
-is_same : (o p : Occurrence) → o ≡ p → same o p ≡ true
+pub is_same : (o p : Occurrence) → o ≡ p → same o p ≡ true
 is_same o p e = and_from _ _ (eq-eqb o.position p.position (ap (λ x. x.position) e)) (eq-eqb o.attribute p.attribute (ap (λ x. x.attribute) e))
 
 found : (n : ℕ) (ts : List Occurrence) (o : Occurrence) → eqb (numbered_from n ts o) 0 ≡ false → (j : ℕ) × (j < length ts) × (get_or ts j o ≡ o)

@@ -1,6 +1,6 @@
 -- Kinds and their words.
-use Rattle.std.proofs.Common.{◌≡◌, ℕ, Bool, true, false, cond, eqb, Some, None, Option, sym, refl, ap, ◌∙◌, arith}
-use Rattle.std.proofs.lemmas.Bool.{eqb-true}
+use Rattle.std.proofs.Common.{◌≡◌, ℕ, Bool, true, false, cond, eqb, Some, None, Option, refl, arith}
+use Rattle.std.proofs.lemmas.Bool.Decides.{nat_tests}
 use Rattle.grammar.specs.declared.vocabulary.SymbolKind.{SymbolKind}
 use Rattle.grammar.specs.declared.vocabulary.SymbolKind.TheVariants.{Inner, Terminal}
 use Rattle.grammar.specs.declared.vocabulary.AttributeKind.{AttributeKind}
@@ -10,30 +10,15 @@ use Rattle.grammar.specs.Kinds.{symbol_kind, attribute_kind}
 use Rattle.tables.specs.Reading.{standing}
 use Rattle.tables.specs.Tables.{symbol_word, attribute_word}
 
-none_is_not_some : {A : Type 0} {a : A} → ◌≡◌ {A = Option A} None (Some a) → ⊥
-none_is_not_some h = let z : ◌≡◌ {A = ℕ} 0 1 = cc in omega arith
-
-some_same : {A : Type 0} {a b : A} → ◌≡◌ {A = Option A} (Some a) (Some b) → b ≡ a
-some_same e = cc
-
 -- a word that is known is its kind's
 pub symbol_known : (w : ℕ) (k : SymbolKind) → symbol_kind w ≡ Some k → symbol_word k ≡ w
-symbol_known w k e = go (eqb w 1) refl (eqb w 2) refl e
-  where
-    go : (a : Bool) → eqb w 1 ≡ a → (b : Bool) → eqb w 2 ≡ b → cond a (Some Inner) (cond b (Some Terminal) None) ≡ Some k → symbol_word k ≡ w
-    go true p b q h = ap symbol_word (some_same h) ∙ sym (eqb-true w 1 p)
-    go false p true q h = ap symbol_word (some_same h) ∙ sym (eqb-true w 2 q)
-    go false p false q h = absurd (none_is_not_some h)
+symbol_known w Inner e = grind (arith, nat_tests)
+symbol_known w Terminal e = grind (arith, nat_tests)
 
 pub attribute_known : (w : ℕ) (k : AttributeKind) → attribute_kind w ≡ Some k → attribute_word k ≡ w
-attribute_known w k e = go (eqb w 1) refl (eqb w 2) refl (eqb w 3) refl e
-  where
-    go : (a : Bool) → eqb w 1 ≡ a → (b : Bool) → eqb w 2 ≡ b → (c : Bool) → eqb w 3 ≡ c
-        → cond a (Some Inherited) (cond b (Some Synthesized) (cond c (Some Given) None)) ≡ Some k → attribute_word k ≡ w
-    go true p b q c r h = ap attribute_word (some_same h) ∙ sym (eqb-true w 1 p)
-    go false p true q c r h = ap attribute_word (some_same h) ∙ sym (eqb-true w 2 q)
-    go false p false q true r h = ap attribute_word (some_same h) ∙ sym (eqb-true w 3 r)
-    go false p false q false r h = absurd (none_is_not_some h)
+attribute_known w Inherited e = grind (arith, nat_tests)
+attribute_known w Synthesized e = grind (arith, nat_tests)
+attribute_known w Given e = grind (arith, nat_tests)
 
 pub symbol_word_known : (k : SymbolKind) → symbol_kind (symbol_word k) ≡ Some k
 symbol_word_known Inner = refl
@@ -70,9 +55,9 @@ attribute_kind_is w kind = go (eqb w 1) (eqb w 2) (eqb w 3)
 
 -- a kind that is there and may stand
 pub standing_known : (symbol : SymbolKind) (starts : Bool) (o : Option AttributeKind) (kind : AttributeKind) → standing symbol starts o ≡ Some kind → (o ≡ Some kind) × (may_stand symbol starts kind ≡ true)
-standing_known symbol starts None kind e = absurd (none_is_not_some e)
+standing_known symbol starts None kind e = cc
 standing_known symbol starts (Some k) kind e = go (may_stand symbol starts k) refl e
   where
     go : (b : Bool) → may_stand symbol starts k ≡ b → cond b (Some k) None ≡ Some kind → (Some k ≡ Some kind) × (may_stand symbol starts kind ≡ true)
-    go true h e = (e, ap (may_stand symbol starts) (some_same e) ∙ h)
-    go false h e = absurd (none_is_not_some e)
+    go true h e = (e, cc)
+    go false h e = cc

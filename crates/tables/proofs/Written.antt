@@ -17,10 +17,6 @@ use Rattle.tables.proofs.Words.{symbol_word_known, attribute_word_known, symbol_
 use Rattle.tables.proofs.Symbols.{total, attribute_at, GoodAttribute, kind_at, GoodSymbols, symbols_from, attributes_from}
 use Rattle.tables.proofs.Vocabularies.{name, Standing, length-syms, row_of, KindsFrom, kinds_from, vocabulary_of}
 
--- a list that is empty is no other
-empty : {A : Type 0} {x : A} {xs : List A} → ◌≡◌ {A = List A} [] (x ∷ xs) → ⊥
-empty e = let z : ◌≡◌ {A = ℕ} 0 1 = cc in omega arith
-
 heads : {A : Type 0} {x y : A} {xs ys : List A} → ◌≡◌ {A = List A} (x ∷ xs) (y ∷ ys) → x ≡ y
 heads e = cc
 
@@ -46,8 +42,8 @@ module _ (bytes : List ℕ) where
       → map (λ s. symbol_word s.kind) ys ≡ map (λ s. word bytes s.place 1) xs → map (λ s. s.count) ys ≡ map (λ s. length s.attributes) xs
       → (ys ≡ symbols_from bytes m xs) × (m + total xs ≡ end)
   symbols_are [] [] m end r k c = (refl, omega arith)
-  symbols_are [] (x ∷ xs) m end r k c = absurd (empty k)
-  symbols_are (y ∷ ys) [] m end r k c = absurd (empty (sym k))
+  symbols_are [] (x ∷ xs) m end r k c = cc
+  symbols_are (y ∷ ys) [] m end r k c = cc
   symbols_are (y ∷ ys) (x ∷ xs) m end r k c =
       let n : y.count ≡ length x.attributes = heads c in
       let i = symbols_are ys xs (m + length x.attributes) end (rw n at r.1) (tails k) (tails c) in
@@ -58,8 +54,8 @@ module _ (bytes : List ℕ) where
   -- the attributes
   kinds_are : (ys : List Attribute) (ps : List ℕ) → map (λ a. attribute_word a.kind) ys ≡ map (λ p. word bytes p 1) ps → map (λ a. a.kind) ys ≡ map (λ p. attribute_kind_of (word bytes p 1)) ps
   kinds_are [] [] e = refl
-  kinds_are [] (p ∷ ps) e = absurd (empty e)
-  kinds_are (y ∷ ys) [] e = absurd (empty (sym e))
+  kinds_are [] (p ∷ ps) e = cc
+  kinds_are (y ∷ ys) [] e = cc
   kinds_are (y ∷ ys) (p ∷ ps) e = ap₂ (λ z zs. z ∷ zs) (attribute_again y.kind (word bytes p 1) (heads e)) (kinds_are ys ps (tails e))
 
   kinds_written : (xs : List SymbolPlaces) (n : ℕ) → map (λ a. a.kind) (attributes_from bytes n xs) ≡ map (λ p. attribute_kind_of (word bytes p 1)) (joined (map symbol_attributes xs))
@@ -76,8 +72,8 @@ module _ (bytes : List ℕ) where
   attributes_same : (ys zs : List Attribute) → map (λ a. a.kind) ys ≡ map (λ a. a.kind) zs
       → ((a : ℕ) → a < length ys → (get_or ys a no_attribute).symbol ≡ (get_or zs a no_attribute).symbol) → ys ≡ zs
   attributes_same [] [] k h = refl
-  attributes_same [] (z ∷ zs) k h = absurd (empty k)
-  attributes_same (y ∷ ys) [] k h = absurd (empty (sym k))
+  attributes_same [] (z ∷ zs) k h = cc
+  attributes_same (y ∷ ys) [] k h = cc
   attributes_same (y ∷ ys) (z ∷ zs) k h =
       let q : y ≡ z = λ j. record { symbol = h 0 (omega arith) j; kind = heads k j } in
       ap₂ (λ x xs. x ∷ xs) q (attributes_same ys zs (tails k) (λ a l. h (suc a) (omega arith)))
@@ -110,13 +106,13 @@ module _ (bytes : List ℕ) where
   symbols_known : (ys : List Symbol) (xs : List SymbolPlaces) → map (λ s. symbol_word s.kind) ys ≡ map (λ s. word bytes s.place 1) xs
       → AllByRecursion (λ x. symbol_kind (word bytes x.place 1) ≡ Some (kind_at bytes x.place)) xs
   symbols_known ys [] e = tt
-  symbols_known [] (x ∷ xs) e = absurd (empty e)
+  symbols_known [] (x ∷ xs) e = cc
   symbols_known (y ∷ ys) (x ∷ xs) e = (symbol_there y.kind (word bytes x.place 1) (heads e), symbols_known ys xs (tails e))
 
   attributes_known : (ys : List Attribute) (ps : List ℕ) → map (λ a. attribute_word a.kind) ys ≡ map (λ p. word bytes p 1) ps
       → AllByRecursion (λ p. attribute_kind (word bytes p 1) ≡ Some (attribute_kind_of (word bytes p 1))) ps
   attributes_known ys [] e = tt
-  attributes_known [] (p ∷ ps) e = absurd (empty e)
+  attributes_known [] (p ∷ ps) e = cc
   attributes_known (y ∷ ys) (p ∷ ps) e = (attribute_there y.kind (word bytes p 1) (heads e), attributes_known ys ps (tails e))
 
   few_each : (xs : List SymbolPlaces) (m : ℕ) → AllByRecursion (λ y. y.count ≤ 16) (symbols_from bytes m xs) → AllByRecursion (λ x. length x.attributes ≤ 16) xs

@@ -5,6 +5,6 @@ pub mod record;
 pub mod table;
 mod theorems;
 
-pub use record::{Link, Record};
+pub use record::{HEAD, Link, Record};
 pub use table::{Reached, Table};
 pub use theorems::{accepted_is_lawful, lawful_is_accepted, refusal_names_a_fault};

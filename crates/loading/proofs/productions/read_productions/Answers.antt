@@ -18,6 +18,23 @@ rules-init g c =
       record { gives = rw (c.new-rules.ensures.len, c.new-rules.ensures.items, c.link-rule_link.ensures) refl },
     )
 
+pub arguments-init : goal.arguments-init
+arguments-init g c = (
+  omega (arith, c.new-arguments.ensures.len),
+  omega (arith, c.in-Ok-follow.ensures.left, ap one c.in-Some-found.is, c.rules.invariant.0),
+  rw c.new-arguments.ensures.items refl,
+  record { gives = rw (c.new-arguments.ensures.len, c.new-arguments.ensures.items, c.link-argument_link.ensures) refl },
+)
+
+pub add-requires-clause-few : goal.add-requires-clause-few
+add-requires-clause-few g c = room_left _ _ _ _ c.in-Ok-follow.ensures.left (ap one c.in-Some-found.is) c.rules.invariant.0
+
+pub add-requires-clause-target : goal.add-requires-clause-target
+add-requires-clause-target g c = c.in-Ok-target.ensures.1
+
+pub add-requires-clause-first : goal.add-requires-clause-first
+add-requires-clause-first g c = c.in-Ok-target.ensures.2
+
 pub arguments-preserved : goal.arguments-preserved
 arguments-preserved g c =
     let v = vocabulary_view c.args.vocabulary.now in
@@ -39,7 +56,7 @@ rules-preserved g c =
     let v = vocabulary_view c.args.vocabulary.now in
     let admitted = g.K.ValueKind.admitted c.args.kind.now in
     let added = c.in_default-add.ensures in
-    let wanted = target_wanted bytes v admitted c.in-Some.production.w1 (vec_items c.in-Ok-read_right_side.right) (vec_items c.rules.rules.rules) c.in-Some-found.rule c.follow-in-rules.new.reached c.in-Ok-target.target.occurrence c.in-Ok-target.ensures in
+    let wanted = target_wanted bytes v admitted c.in-Some.production.w1 (vec_items c.in-Ok-read_right_side.right) (vec_items c.rules.rules.rules) c.in-Some-found.rule c.follow-in-rules.new.reached c.in-Ok-target.target.occurrence c.in-Ok-target.ensures.0 in
     let step = arguments_read bytes v admitted c.in-Some.production.w1 (vec_items c.in-Ok-read_right_side.right) (vec_items c.rules.rules.rules) c.in-Some-found.rule c.follow-in-rules.new.reached c.in-Ok-target.target.occurrence wanted
     (vec_items c.arguments.arguments) c.follow-in-arguments.new.reached _ (ended c.arguments.invariant.3 c.in-Ok-follow-2.ensures.value c.in_default-found-2.is) (added.value bytes v c.follow-in-arguments.new.reached) in
     let board = c.arguments.invariant.2 ∙ ap (with_arguments v c.in-Ok-target.target.occurrence (vec_items c.arguments.arguments)) c.rules.invariant.1
@@ -100,19 +117,19 @@ returns-in-Some-fault-clause-value g c =
       | in-Ok+in-Some+else-len-eq-MOST_PRODUCTIONS+in-Ok-read_right_side+in-Ok-follow+in-Some-found+in-Ok-target+in-Err-follow-2 w ↦
           told is w.fault-is (production_stops v admitted c.productions.invariant.2 w.in-Ok.ensures.value w.in-Some.is (not_full _ _ 128 w.len.ensures w.if-len-eq-MOST_PRODUCTIONS.false c.productions.invariant.0)
           (vec_items w.in-Ok-read_right_side.right) w.read_right_side.new.reached (w.in-Ok-read_right_side.ensures.value admitted)
-          (rule_stops v admitted w.in-Some.production.w1 (vec_items w.in-Ok-read_right_side.right) (vec_items w.rules.rules.rules) w.rules.invariant.2 w.in-Ok-follow.ensures.value w.in-Some-found.is (room_left _ _ _ _ w.in-Ok-follow.ensures.left (ap one w.in-Some-found.is) w.rules.invariant.0) w.in-Ok-target.ensures
+          (rule_stops v admitted w.in-Some.production.w1 (vec_items w.in-Ok-read_right_side.right) (vec_items w.rules.rules.rules) w.rules.invariant.2 w.in-Ok-follow.ensures.value w.in-Some-found.is (room_left _ _ _ _ w.in-Ok-follow.ensures.left (ap one w.in-Some-found.is) w.rules.invariant.0) w.in-Ok-target.ensures.0
           (halted w.arguments.invariant.3 w.in-Err-follow-2.ensures.value)))
       | in-Ok+in-Some+else-len-eq-MOST_PRODUCTIONS+in-Ok-read_right_side+in-Ok-follow+in-Some-found+in-Ok-target+in-Ok-follow-2+in-Some-found-2+then-len-eq-MOST_ARGUMENTS w ↦
           told is w.fault-is (production_stops v admitted c.productions.invariant.2 w.in-Ok.ensures.value w.in-Some.is (not_full _ _ 128 w.len.ensures w.if-len-eq-MOST_PRODUCTIONS.false c.productions.invariant.0)
           (vec_items w.in-Ok-read_right_side.right) w.read_right_side.new.reached (w.in-Ok-read_right_side.ensures.value admitted)
-          (rule_stops v admitted w.in-Some.production.w1 (vec_items w.in-Ok-read_right_side.right) (vec_items w.rules.rules.rules) w.rules.invariant.2 w.in-Ok-follow.ensures.value w.in-Some-found.is (room_left _ _ _ _ w.in-Ok-follow.ensures.left (ap one w.in-Some-found.is) w.rules.invariant.0) w.in-Ok-target.ensures
+          (rule_stops v admitted w.in-Some.production.w1 (vec_items w.in-Ok-read_right_side.right) (vec_items w.rules.rules.rules) w.rules.invariant.2 w.in-Ok-follow.ensures.value w.in-Some-found.is (room_left _ _ _ _ w.in-Ok-follow.ensures.left (ap one w.in-Some-found.is) w.rules.invariant.0) w.in-Ok-target.ensures.0
           (passed w.arguments.invariant.3 w.in-Ok-follow-2.ensures.value w.in-Some-found-2.is (full _ _ 8 w.len-in-arguments.ensures w.if-len-eq-MOST_ARGUMENTS.true))))
       | in-Ok+in-Some+else-len-eq-MOST_PRODUCTIONS+in-Ok-read_right_side+in-Ok-follow+in-Some-found+in-Ok-target+in-Ok-follow-2+in-Some-found-2+else-len-eq-MOST_ARGUMENTS+in-Err-add_argument w ↦
           elim (w.in-Err-add_argument.ensures.value bytes admitted w.follow-in-arguments.new.reached) [
             | inl h ↦ told_either is w.fault-is (inl h)
             | inr h ↦ told is w.fault-is (production_stops v admitted c.productions.invariant.2 w.in-Ok.ensures.value w.in-Some.is (not_full _ _ 128 w.len.ensures w.if-len-eq-MOST_PRODUCTIONS.false c.productions.invariant.0)
                 (vec_items w.in-Ok-read_right_side.right) w.read_right_side.new.reached (w.in-Ok-read_right_side.ensures.value admitted)
-                (rule_stops v admitted w.in-Some.production.w1 (vec_items w.in-Ok-read_right_side.right) (vec_items w.rules.rules.rules) w.rules.invariant.2 w.in-Ok-follow.ensures.value w.in-Some-found.is (room_left _ _ _ _ w.in-Ok-follow.ensures.left (ap one w.in-Some-found.is) w.rules.invariant.0) w.in-Ok-target.ensures
+                (rule_stops v admitted w.in-Some.production.w1 (vec_items w.in-Ok-read_right_side.right) (vec_items w.rules.rules.rules) w.rules.invariant.2 w.in-Ok-follow.ensures.value w.in-Some-found.is (room_left _ _ _ _ w.in-Ok-follow.ensures.left (ap one w.in-Some-found.is) w.rules.invariant.0) w.in-Ok-target.ensures.0
                 (stopped w.arguments.invariant.3 w.in-Ok-follow-2.ensures.value w.in-Some-found-2.is (not_full _ _ 8 w.len-in-arguments.ensures w.if-len-eq-MOST_ARGUMENTS.false w.arguments.invariant.0) h)))
           ]
       | in-Ok+in-Some+else-len-eq-MOST_PRODUCTIONS+in-Ok-read_right_side+in-Ok-follow+in-Some-found+in-Ok-target+in-Ok-follow-2+in_default-found-2+in-Err-add w ↦
@@ -122,7 +139,7 @@ returns-in-Some-fault-clause-value g c =
                 (vec_items w.in-Ok-read_right_side.right) w.read_right_side.new.reached (w.in-Ok-read_right_side.ensures.value admitted)
                 (stopped w.rules.invariant.2 w.in-Ok-follow.ensures.value w.in-Some-found.is (room_left _ _ _ _ w.in-Ok-follow.ensures.left (ap one w.in-Some-found.is) w.rules.invariant.0)
                 (arguments_read bytes v admitted w.in-Some.production.w1 (vec_items w.in-Ok-read_right_side.right) (vec_items w.rules.rules.rules) w.in-Some-found.rule w.follow-in-rules.new.reached _
-                (target_wanted bytes v admitted w.in-Some.production.w1 (vec_items w.in-Ok-read_right_side.right) (vec_items w.rules.rules.rules) w.in-Some-found.rule w.follow-in-rules.new.reached _ w.in-Ok-target.ensures)
+                (target_wanted bytes v admitted w.in-Some.production.w1 (vec_items w.in-Ok-read_right_side.right) (vec_items w.rules.rules.rules) w.in-Some-found.rule w.follow-in-rules.new.reached _ w.in-Ok-target.ensures.0)
                 _ _ _ (ended w.arguments.invariant.3 w.in-Ok-follow-2.ensures.value w.in_default-found-2.is) h)))
           ]
       | in-Ok+in-Some+else-len-eq-MOST_PRODUCTIONS+in-Ok-read_right_side+in-Ok-follow+in_default-found+in-Err-finish w ↦
