@@ -28,9 +28,9 @@ impl Sides<'_> {
     fn symbol_at(&self, position: u16) -> Option<u16>
         ensures { MatchOption result (vec_len self.now.right < position) (λ s. (position ≤ vec_len self.now.right) × (s ≡ symbol_at self.now.left (right_of self.now) position)) }
     {
-        match usize::from(position).checked_sub(1) {
-            None => Some(self.left),
-            Some(place) => self.right.get(place).copied(),
+        match usize::from(position) {
+            0 => Some(self.left),
+            position => self.right.get(position - 1).copied(),
         }
     }
 
