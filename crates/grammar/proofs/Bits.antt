@@ -77,7 +77,7 @@ label_bars Right j k = bits (ahead Left j k) (ahead Right j k)
 decides_leb : (m n : ℕ) → Decides (leb m n) (m ≤ n)
 decides_leb m n = (leb-true m n, le-leb m n)
 
-ahead_decides : (d : Direction) (j k : ℕ) → Decides (ahead d j k) (Ahead d j k)
+pub ahead_decides : (d : Direction) (j k : ℕ) → Decides (ahead d j k) (Ahead d j k)
 ahead_decides Left j k = Decides-and _ _ (decides_leb 1 k) (decides_leb k j)
 ahead_decides Right j k = Decides-and _ _ (decides_leb 1 j) (decides_leb j k)
 

@@ -1,5 +1,5 @@
 -- The labels of a lawful grammar's board, read as precedence and bars.
-use Rattle.std.proofs.Common.{◌≡◌, ℕ, ◌≤◌, true, false, List, length, replicate, Decides, sym, ap, ◌∙◌, subst, ap₂, ⊎_elim, le_trans, arith}
+use Rattle.std.proofs.Common.{◌≡◌, ℕ, ◌≤◌, true, false, List, length, replicate, Decides, sym, ap, ◌∙◌, subst, ap₂, ⊎_elim, le_trans}
 use lib.ListN.{length-replicate}
 use Rattle.std.proofs.lemmas.Bool.{both_ways, and_parts, ltb-true, leb-true}
 use Rattle.std.proofs.lemmas.Bool.Decides.{Decides-like}
@@ -8,7 +8,7 @@ use Rattle.grammar.specs.Members.{◌∈◌}
 use Rattle.grammar.specs.Grammar.{Vocabulary, Rule, Production, Grammar, attribute, given, names, occurs}
 use Rattle.grammar.specs.Lawful.{LawfulRule, LawfulProduction, Lawful, Used}
 use Rattle.grammar.specs.Arcs.{Arc, precedence, bar, label, labelled, board_of}
-use Rattle.grammar.specs.ArcTheorems.{LabelsStandForRelations, SamePositionIsBarredBothWays, GivenPrecedesNothing}
+use Rattle.grammar.specs.ArcTheorems.{LabelsStandForRelations}
 use Rattle.grammar.proofs.Bits.{marked, label_precedes, label_decides}
 use Rattle.grammar.proofs.Labels.{OnBoard, ProductionAdds, SomeAdds, blank, productions_add}
 use Rattle.grammar.proofs.Members.{all_member}
@@ -86,11 +86,3 @@ labels_stand_for_relations g lawful a b a-from a-to b-from b-to = (
   Decides-like _ (λ m. (m.0, m.1, m.2)) (λ m. (m.0, m.1, m.2, label_precedes m.0 m.1)) (labels_decide g lawful precedence a b (a-from, a-to) (b-from, b-to)),
   λ d. Decides-like _ (λ m. (m.0, m.1, m.2, (label_decides d m.0 m.1).0 m.3)) (λ m. (m.0, m.1, m.2, (label_decides d m.0 m.1).1 m.3)) (labels_decide g lawful (bar d) a b (a-from, a-to) (b-from, b-to)),
 )
-
-pub same_position_is_barred_both_ways : SamePositionIsBarredBothWays
-same_position_is_barred_both_ways g a b k h arc =
-    let same : k ≤ k = omega arith in
-    ((k, k, arc, (h, same)), (k, k, arc, (h, same)))
-
-pub given_precedes_nothing : GivenPrecedesNothing
-given_precedes_nothing g a b is_given precedes = both_ways _ precedes.2.not_given is_given

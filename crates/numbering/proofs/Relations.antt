@@ -1,44 +1,23 @@
 -- From tests on attributes to the relations of a grammar.
 use Rattle.std.proofs.Common.{◌≡◌, ℕ, ◌<◌, ◌≤◌, Bool, true, false, ◌&&◌, eqb, List, [], ◌∷◌, length, Decides, sym, refl, ap, ◌∙◌, subst, ap₂, inl, inr, ⊎_elim, arith}
-use Rattle.std.proofs.lemmas.Bool.{both_ways, cases_Bool, cases_lt, and_parts, and_from, or_cases, or_left, or_right, not-true, not_from_false, leb-true, le-leb}
+use Rattle.std.proofs.lemmas.Bool.{both_ways, cases_Bool, cases_lt, and_parts, and_from, or_cases, or_left, or_right, not-true, not_from_false}
 use Rattle.std.proofs.lemmas.Bool.Decides.{Decides-and, Decides-eqb, Decides-like}
 use Rattle.plans.specs.declared.Direction.{Direction}
-use Rattle.plans.specs.declared.Direction.TheVariants.{Left, Right}
 use Rattle.grammar.specs.declared.production.Occurrence.{Occurrence}
-use Rattle.grammar.specs.declared.vocabulary.AttributeKind.{AttributeKind}
-use Rattle.grammar.specs.declared.vocabulary.AttributeKind.TheVariants.{Inherited, Synthesized, Given}
 use Rattle.grammar.specs.Members.{◌∈◌}
-use Rattle.grammar.specs.Grammar.{Vocabulary, Rule, Production, Grammar, attribute, is_attribute, given, occurs, defined_at}
-use Rattle.grammar.specs.Lawful.{LawfulRule, LawfulProduction, Lawful, Used}
-use Rattle.grammar.specs.Arcs.{Arc, Precedes, Barred, Ahead, ahead}
+use Rattle.grammar.specs.Grammar.{Rule, Production, Grammar, attribute, is_attribute, given}
+use Rattle.grammar.specs.Lawful.{Lawful}
+use Rattle.grammar.specs.Arcs.{Arc, Precedes, Barred, ahead}
 use Rattle.grammar.specs.Numberings.{wants, direction, Valid, Least}
-use Rattle.grammar.proofs.Members.{all_member}
+use Rattle.grammar.proofs.Bits.{ahead_decides}
+use Rattle.grammar.proofs.Wants.{arc_source_wants, arc_target_wants}
 use Rattle.numbering.specs.Graph.{Graph, ValidOn, LeastOn}
 use Rattle.numbering.specs.Graph.{Arc as Edge}
 use Rattle.numbering.specs.GrammarGraph.{some_of, arc_where, graph_of}
 
 -- in a lawful grammar arcs run between attributes that want numbers
-defined_not_given : (k : AttributeKind) (position : ℕ) → defined_at k position ≡ true → given k ≡ false
-defined_not_given Inherited position h = refl
-defined_not_given Synthesized position h = refl
-defined_not_given Given position h = absurd (both_ways false refl h)
-
-occurring : (v : Vocabulary) (left : ℕ) (right : List ℕ) (o : Occurrence) → occurs v left right o ≡ true → is_attribute v o.attribute ≡ true
-occurring v left right o h = (and_parts _ _ (and_parts _ _ h).1).0
-
-module _ (g : Grammar) (lawful : Lawful g) where
-  pub arc_ends : (a b : ℕ) → Precedes g a b → (wants g a ≡ true) × (wants g b ≡ true)
-  arc_ends a b precedes =
-      let v = g.vocabulary in
-      let arc = precedes.2 in
-      let p = arc.production in
-      let production = all_member (LawfulProduction v) g.productions p lawful.productions arc.in_grammar in
-      let rule = all_member (LawfulRule v p) p.rules arc.rule production.rules arc.in_production in
-      let used = all_member (Used v p) arc.rule.arguments arc.argument rule.uses arc.in_rule in
-      let source : is_attribute v a ≡ true = subst (λ (o : Occurrence). is_attribute v o.attribute ≡ true) arc.takes (occurring v p.left p.right arc.argument used.0) in
-      let target : is_attribute v b ≡ true = subst (λ (o : Occurrence). is_attribute v o.attribute ≡ true) arc.sets (occurring v p.left p.right arc.rule.target rule.defines.0) in
-      let not_given : given (attribute v b).kind ≡ false = subst (λ (o : Occurrence). given (attribute v o.attribute).kind ≡ false) arc.sets (defined_not_given _ _ rule.defines.1) in
-      (and_from _ _ source (not_from_false _ arc.not_given), and_from _ _ target (not_from_false _ not_given))
+pub arc_ends : (g : Grammar) → Lawful g → (a b : ℕ) → Precedes g a b → (wants g a ≡ true) × (wants g b ≡ true)
+arc_ends g lawful a b precedes = (arc_source_wants g lawful a b precedes, arc_target_wants g lawful a b precedes)
 
 -- A graph on the attributes of a grammar whose tests decide the grammar's relations has the same least numberings.
 module _ (g : Grammar) (t : Graph) (ds : List Direction)
@@ -177,10 +156,6 @@ module _ (test : ℕ → ℕ → Bool) (g : Grammar) (a b : ℕ) where
     (λ h. let parts = and_parts _ _ h in arc_found (not-true _ parts.0) (found_decides.0 parts.1)),
     (λ m. and_from _ _ (not_from_false _ m.2.not_given) (found_decides.1 (found_arc m))),
   )
-
-ahead_decides : (d : Direction) (j k : ℕ) → Decides (ahead d j k) (Ahead d j k)
-ahead_decides Left j k = Decides-and _ _ (leb-true 1 k, le-leb 1 k) (leb-true k j, le-leb k j)
-ahead_decides Right j k = Decides-and _ _ (leb-true 1 j, le-leb 1 j) (leb-true j k, le-leb j k)
 
 -- the tests of a grammar's graph decide precedence and bars
 pub precedes_decides : (g : Grammar) (a b : ℕ) → Decides ((graph_of g).precedes a b) (Precedes g a b)
