@@ -6,7 +6,7 @@ use Rattle.grammar.specs.declared.vocabulary.AttributeKind.{AttributeKind}
 use Rattle.grammar.specs.declared.vocabulary.AttributeKind.TheVariants.{Inherited, Synthesized, Given}
 use Rattle.grammar.specs.declared.vocabulary.Attribute.{Attribute}
 use Rattle.grammar.specs.Grammar.{Grammar, attribute, is_attribute, given, defined_at, no_attribute}
-use Rattle.grammar.specs.Lawful.{Lawful, LawfulProduction, LawfulRule}
+use Rattle.grammar.specs.Lawful.{Lawful, LawfulProduction, LawfulRule, Used}
 use Rattle.grammar.specs.Arcs.{Precedes}
 use Rattle.grammar.specs.Books.{unnumbered, wanting_at}
 use Rattle.grammar.specs.Numberings.{wants, number_of, Valid, Numbered}
@@ -18,7 +18,16 @@ defined_not_given Inherited position h = refl
 defined_not_given Synthesized position h = refl
 defined_not_given Given position h = absurd (both_ways false refl h)
 
--- an attribute that others precede in a lawful grammar wants a number
+-- the attributes of an arc of a lawful grammar want numbers
+pub arc_source_wants : (g : Grammar) → Lawful g → (a b : ℕ) → Precedes g a b → wants g a ≡ true
+arc_source_wants g lawful a b found =
+    let arc = found.2 in
+    let p = all_member (LawfulProduction g.vocabulary) g.productions arc.production lawful.productions arc.in_grammar in
+    let r = all_member (LawfulRule g.vocabulary arc.production) arc.production.rules arc.rule p.rules arc.in_production in
+    let used = all_member (Used g.vocabulary arc.production) arc.rule.arguments arc.argument r.uses arc.in_rule in
+    let named : is_attribute g.vocabulary arc.argument.attribute ≡ true = (and_parts _ _ (and_parts _ _ used.0).1).0 in
+    and_from _ _ (subst (λ o. is_attribute g.vocabulary o.attribute ≡ true) arc.takes named) (not_from_false _ arc.not_given)
+
 pub arc_target_wants : (g : Grammar) → Lawful g → (a b : ℕ) → Precedes g a b → wants g b ≡ true
 arc_target_wants g lawful a b found =
     let arc = found.2 in
