@@ -1,13 +1,14 @@
 -- What `has` says of the word operations.
-use Rattle.std.proofs.Common.{◌≡◌, ℕ, zero, suc, ◌+◌, ◌-◌, ◌*◌, ◌/◌, ◌^◌, ◌<◌, ◌≤◌, min, max, Bool, true, false, cond, not, ◌&&◌, ◌||◌, eqb, ltb, sym, refl, ap, ◌∙◌, ap₂, inl, inr, pow-suc, w64, arith}
+use Rattle.std.proofs.Common.{◌≡◌, ℕ, zero, suc, ◌+◌, ◌-◌, ◌*◌, ◌/◌, ◌%◌, ◌^◌, ◌<◌, ◌≤◌, min, max, Bool, true, false, cond, not, ◌&&◌, ◌||◌, eqb, ltb, sym, refl, ap, ◌∙◌, ap₂, inl, inr, pow-suc, w64, MatchBool, arith}
 use mathlib.Core.Path.{fun_ext}
 use mathlib.Core.Bool.{and-true}
 use lib.Arith.{lt-one}
-use lib.Bits.{bit_and, bit_or}
+use lib.Bits.{bit_and, bit_or, and_lt, and_mask}
 use lib.Count.{ones, ones_step, count_trailing_zeros}
 use Rattle.std.specs.Int.{bit_at}
 use Rattle.std.proofs.lemmas.Nat.Bits.{bit_at_lowest, bit_at-suc, bit_at-zero, bit_at_and, bit_at_or, bit_at-pow_same, bit_at-pow_other, bit_at_not, bit_at-trailing_zeros, bit_at-lt, bit_at_above}
-use Rattle.std.proofs.lemmas.Bool.{both_ways, ne_eqb, eq-eqb, cases_lt, cases_eq}
+use Rattle.std.proofs.lemmas.Nat.{one_shl, pow_below}
+use Rattle.std.proofs.lemmas.Bool.{both_ways, ne_eqb, eq-eqb, cases_lt, cases_eq, eqb-true, eqb-false, and_parts}
 use Rattle.std.proofs.lemmas.Bool.Decides.{nat_tests}
 use Rattle.bitset.specs.Sets.{has, many, Lowest}
 
@@ -48,6 +49,11 @@ has_one q p = elim (cases_eq p q) [
   | inr ne ↦ ap (λ n. eqb n 1) (bit_at-pow_other q p ne) ∙ sym (ne_eqb p q ne)
 ]
 
+-- a place is in a set where the word, moved down by so many places, is odd
+pub has_digit : (x p : ℕ) → eqb (bit_and (x / 2 ^ p) 1) 1 ≡ has x p
+unfolding has
+has_digit x p = ap (λ n. eqb n 1) (and_mask (x / 2 ^ p) 1)
+
 -- a word has no place past its end
 pub has_past : (x p : ℕ) → x < 2 ^ 64 → 64 ≤ p → has x p ≡ false
 unfolding has
@@ -67,6 +73,9 @@ has_minus x y p hx hy = has_and x (2 ^ 64 - 1 - y) p ∙ elim (cases_lt p 64) [
   | inl l ↦ ap (λ b. has x p && b) (has_not y p hy l)
   | inr l ↦ ap (λ b. b && has (2 ^ 64 - 1 - y) p) (has_past x p hx l) ∙ sym (ap (λ b. b && not (has y p)) (has_past x p hx l))
 ]
+
+pub has_less : (x q p : ℕ) → x < 2 ^ 64 → q < 64 → has (bit_and x (2 ^ 64 - 1 - (1 * 2 ^ q) % 2 ^ 64)) p ≡ (has x p && not (eqb p q))
+has_less x q p h l = rw (one_shl q 64 l) (has_minus x (2 ^ q) p h (pow_below q 64 l) ∙ ap (λ b. has x p && not b) (has_one q p))
 
 -- what `count_ones` counts
 pub ones_many : (k x : ℕ) → x < 2 ^ k → ones x ≡ many (has x) k
@@ -102,3 +111,24 @@ without_past x q p h l = elim (cases_eq p q) [
   | inl e ↦ has_past x p h (omega arith) ∙ sym (ap (λ b. b && not (eqb p q)) (has_past x p h (omega arith)))
   | inr ne ↦ sym (ap (λ b. has x p && not b) (ne_eqb p q ne) ∙ and-true (has x p))
 ]
+
+-- a set that is empty, or its lowest place
+pub none_or_some : (x : ℕ) → x < 2 ^ 64 → MatchBool (eqb x 0) (x ≡ 0) ((p : ℕ) × (has x p ≡ true))
+none_or_some x h = told (eqb x 0) refl
+  where
+    told : (b : Bool) → eqb x 0 ≡ b → MatchBool b (x ≡ 0) ((p : ℕ) × (has x p ≡ true))
+    told true e = eqb-true x 0 e
+    told false e = (count_trailing_zeros 64 x, (trailing_lowest x h (omega (arith, eqb-false x 0 e))).there)
+
+-- the lowest place of the common part, or no common place
+pub common : (x y : ℕ) → x < 2 ^ 64 → y < 2 ^ 64
+    → MatchBool (not (eqb (bit_and x y) 0)) ((p : ℕ) × (p < 64) × (has x p ≡ true) × (has y p ≡ true)) ((p : ℕ) → has x p ≡ true → has y p ≡ false)
+common x y hx hy = told (eqb (bit_and x y) 0) refl
+  where
+    told : (b : Bool) → eqb (bit_and x y) 0 ≡ b → MatchBool (not b) ((p : ℕ) × (p < 64) × (has x p ≡ true) × (has y p ≡ true)) ((p : ℕ) → has x p ≡ true → has y p ≡ false)
+    told true e = λ p h. ap (λ b. b && has y p) (sym h) ∙ sym (has_and x y p) ∙ ap (λ z. has z p) (eqb-true (bit_and x y) 0 e) ∙ has_none p
+    told false e =
+        let low : Lowest (bit_and x y) 64 (count_trailing_zeros 64 (bit_and x y)) = trailing_lowest (bit_and x y) (and_lt 64 x y hx hy) (omega (arith, eqb-false (bit_and x y) 0 e)) in
+        let t = count_trailing_zeros 64 (bit_and x y) in
+        let both = and_parts (has x t) (has y t) (sym (has_and x y t) ∙ low.there) in
+        (t, low.within, both.0, both.1)

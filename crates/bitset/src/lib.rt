@@ -31,6 +31,7 @@ impl Model for Places {
 }
 
 impl Places {
+    #[tactic(auto, using(crate::proofs::Digits::has_digit, crate::proofs::Digits::has_past))]
     pub fn contains(self, place: usize) -> bool
         ensures { result ≡ has self place }
     {
@@ -50,6 +51,7 @@ impl Places {
     }
 
     // The set less one place.
+    #[tactic(auto, using(crate::proofs::Digits::has_less, crate::proofs::Digits::without_past))]
     pub fn without(self, place: usize) -> Places
         ensures rest { (p : ℕ) → has result p ≡ (has self p && not (p == place)) }
         ensures fewer { result ≤ self }
@@ -64,6 +66,7 @@ impl Places {
     }
 
     // Whether the sets share a place.
+    #[tactic(auto, using(crate::proofs::Digits::common))]
     pub fn meets(self, other: Places) -> bool
         ensures { MatchBool result ((p : ℕ) × (p < 64) × (has self p ≡ true) × (has other p ≡ true)) ((p : ℕ) → has self p ≡ true → has other p ≡ false) }
     {
@@ -71,12 +74,14 @@ impl Places {
     }
 
     // How many places the set has.
+    #[tactic(auto, using(crate::proofs::Digits::ones_many))]
     pub fn len(self) -> u32
         ensures { result ≡ many (has self) 64 }
     {
         self.word.count_ones()
     }
 
+    #[tactic(auto, using(crate::proofs::Digits::none_or_some))]
     pub fn is_empty(self) -> bool
         ensures { MatchBool result (self ≡ 0) ((p : ℕ) × (has self p ≡ true)) }
     {
@@ -101,6 +106,7 @@ impl Sub for Places {
 
     ghost sub_gives = { λ x y r. (p : ℕ) → has r p ≡ (has x p && not (has y p)) };
 
+    #[tactic(auto, using(crate::proofs::Digits::has_minus))]
     fn sub(self, other: Places) -> Places {
         Places {
             word: self.word & !other.word,
