@@ -14,7 +14,7 @@ PATTERNS = {
     "1.3 numbers decoded to kinds": r"^\s+(\d+|\(SymbolKind::\w+, \d\)( if .*)?) => (Some|Ok)\(",
     "1.4 options and results built again by hand": r"^\s+(Some|Ok|Err)\(\w+\) => ((None|Some|Ok|Err)\b|break '\w+ Some)",
     "1.5 flags that a value follows": r"if !is_sized\(",
-    "1.6 zero for none": r"\b(number|n|word|index|production|position|attribute|pass|slots\S*) (==|!=) 0\b",
+    "1.6 zero for none": r"(?<![.\w])(number|n|word|index|production|position|attribute|pass|\S*slots\S*) (==|!=) 0\b",
     "3.1 loops over a range": r"\bfor \w+ in \w+\.\.",
     "3.2 elements by a counted index": r"\.enumerate\(\)",
     "3.3 chains followed by a holder and an index": r"\.follow\(\w+, \w*holder, \w*index\)",

@@ -7,7 +7,8 @@ use plans::Direction;
 // A place for each pair of attributes; 64 * (a - 1) + b - 1 belongs to a before b.
 pub const BOARD_PLACES: usize = 4096;
 
-// The labels of arcs, each a sum of the bit of precedence and of bars; 0 is blank.
+// The labels of arcs, each a sum of the bit of precedence and of bars; 0 is blank. Bits and no enum, since two
+// attributes may be in several of these relations at once; a fixed array, as there are always so many places.
 pub type Board = [u8; BOARD_PLACES];
 
 pub const PRECEDES: u8 = 1;

@@ -8,7 +8,7 @@ use crate::vocabulary::{Attribute, MOST_ATTRIBUTES};
 use bitset::Places;
 use std::array;
 
-// The number of a given attribute, whose values are there before the first pass.
+// The number of a given attribute, whose values are there before the first pass: 0 in the callers' bytes.
 const BEFORE_PASSES: u8 = 0;
 
 // The number that stands for none: callers have a byte for each attribute, and no Option.

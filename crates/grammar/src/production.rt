@@ -23,7 +23,8 @@ pub struct Rule {
     pub arguments: Vec<Occurrence>,
 }
 
-// Slot 64 * position + attribute - 1 has the number, from 1, of the rule for the occurrence, or 0.
+// Slot 64 * position + attribute - 1 has the number, from 1, of the rule for the occurrence, or 0: a look-up by
+// number takes 0 for none already, so an Option in each slot would be no plainer.
 #[derive(Drop)]
 pub struct Production {
     pub left: u16,

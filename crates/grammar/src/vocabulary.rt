@@ -23,7 +23,7 @@ pub enum AttributeKind {
 #[derive(Clone, Copy, PartialEq, Eq, Debug)]
 pub struct UnknownKind(pub u16);
 
-// A symbol has `count` attributes, numbered in a row from `first` on.
+// A symbol has `count` attributes, numbered in a row from `first` on, since attributes are numbered through all symbols.
 #[derive(Clone, Copy, PartialEq, Eq, Debug)]
 pub struct Symbol {
     pub kind: SymbolKind,

@@ -13,7 +13,8 @@ pub mod marks;
 #[cfg(test)]
 mod tests;
 
-// A rule's value starts from its constant and takes in one argument after another.
+// A rule's value starts from its constant and takes in one argument after another. The words of a rule are taken
+// one by one, as the meaning has them. No method has a body here: a shared one would ask more members of a kind.
 pub trait ValueKind {
     type Value: Copy;
 

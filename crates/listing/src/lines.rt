@@ -72,6 +72,7 @@ fn refusal_page(refusal: Refusal) -> Page
     page
 }
 
+// A function here and no `From`: only a listing leaves the attribute out.
 fn place_number(place: Place) -> usize
     ensures { result ≡ place_number place }
 {

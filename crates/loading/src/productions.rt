@@ -61,7 +61,8 @@ fn read_right_side(
     Ok(right)
 }
 
-// The productions of the chain that begins at `first`. The first fault stops all reading.
+// The productions of the chain that begins at `first`. The first fault stops all reading: it leaves the three
+// loops by one labelled break, so what is a `?` elsewhere is a match here.
 pub(crate) fn read_productions<K: ValueKind>(
     heap: Global,
     table: &Table,

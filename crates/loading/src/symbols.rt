@@ -14,13 +14,23 @@ const MOST_SYMBOLS: usize = 48;
 
 const MOST_OF_ONE_SYMBOL: usize = 16;
 
-// The kind that a number names, where an attribute of that kind may stand at the symbol.
-fn attribute_kind(symbol: SymbolKind, starts: bool, number: u16) -> Option<AttributeKind>
-    ensures { result ≡ standing symbol starts (attribute_kind number) }
-{
-    AttributeKind::try_from(number)
-        .ok()
-        .filter(|kind| kind.may_stand_at(symbol, starts))
+// A symbol whose attributes are read, and whether it is the start symbol.
+#[derive(Clone, Copy)]
+struct Owner {
+    number: u16,
+    kind: SymbolKind,
+    starts: bool,
+}
+
+impl Owner {
+    // The kind that a number names, where an attribute of that kind may stand at the symbol.
+    fn attribute_kind(self, number: u16) -> Option<AttributeKind>
+        ensures { result ≡ standing self.kind self.starts (attribute_kind number) }
+    {
+        AttributeKind::try_from(number)
+            .ok()
+            .filter(|kind| kind.may_stand_at(self.kind, self.starts))
+    }
 }
 
 // Adds the attributes of the symbol at the record `at`.
@@ -28,15 +38,13 @@ fn read_attributes(
     table: &Table,
     reached: &mut Reached,
     attributes: &mut Vec<Attribute>,
-    number: u16,
-    symbol: SymbolKind,
-    starts: bool,
+    owner: Owner,
     at: Record,
 ) -> Result<(), Refusal>
     requires { vec_len attributes.old ≤ 64 }
     ensures few { OnOk result (vec_len attributes.new ≤ 64) }
     ensures more { OnOk result (vec_len attributes.old ≤ vec_len attributes.new) }
-    ensures value { Gives (λ _. attributes.new.items) result reached.new (attributes_read table.now.bytes.now number symbol starts attributes.old.items at reached.old) }
+    ensures value { Gives (λ _. attributes.new.items) result reached.new (attributes_read table.now.bytes.now owner.number owner.kind owner.starts attributes.old.items at reached.old) }
 {
     let before = attributes.len();
     let mut link = at.link(at.w2);
@@ -46,13 +54,13 @@ fn read_attributes(
                 record: found.place,
             });
         }
-        let Some(kind) = attribute_kind(symbol, starts, found.w1) else {
+        let Some(kind) = owner.attribute_kind(found.w1) else {
             return Err(Refusal::BadKind {
                 record: found.place,
             });
         };
         let attribute = Attribute {
-            symbol: number,
+            symbol: owner.number,
             kind,
         };
         attributes.push(attribute)?;
@@ -91,16 +99,13 @@ pub(crate) fn read_vocabulary(
             });
         };
         let number = symbols.len() as u16 + 1;
-        let first = attributes.len() as u16 + 1;
-        read_attributes(
-            table,
-            reached,
-            &mut attributes,
+        let owner = Owner {
             number,
             kind,
-            start == number,
-            found,
-        )?;
+            starts: start == number,
+        };
+        let first = attributes.len() as u16 + 1;
+        read_attributes(table, reached, &mut attributes, owner, found)?;
         let count = attributes.len() as u16 + 1 - first;
         symbols.push(Symbol { kind, first, count })?;
         link = found.next_link();

@@ -7,7 +7,7 @@ use bitset::Places;
 use grammar::Board;
 use grammar::vocabulary::MOST_ATTRIBUTES;
 
-// For each attribute a set of attributes, all by places.
+// For each attribute a set of attributes, all by places. A fixed array, since numbering may not fail for memory.
 pub(crate) type Columns = [Places; MOST_ATTRIBUTES];
 
 // The sets of one bit of the labels.

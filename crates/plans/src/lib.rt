@@ -23,6 +23,7 @@ pub enum Direction {
 }
 
 impl Direction {
+    // A method, since `!` on a direction would say less.
     fn opposite(self) -> Direction
         ensures { result ≡ opposite self }
     {

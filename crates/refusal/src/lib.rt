@@ -82,7 +82,7 @@ pub enum Refusal {
 }
 
 impl Refusal {
-    // The number of the refusal; 0 for want of memory.
+    // The number of the refusal; 0 for want of memory. A method and no `From`: its name says which number it is.
     pub fn number(self) -> u8
         ensures { result ≡ number self }
     {
@@ -115,7 +115,7 @@ impl Refusal {
         }
     }
 
-    // The place that the refusal names.
+    // The place that the refusal names, by name as well.
     pub fn place(self) -> Place
         ensures { result ≡ place self }
     {
@@ -174,6 +174,7 @@ impl fmt::Display for Refusal {
 
 impl Error for Refusal {}
 
+// Two impls, since std has two errors for want of memory and `?` takes either.
 impl From<AllocError> for Refusal {
     ghost from_gives = { λ _ r. r ≡ OutOfMemory };
 

@@ -11,8 +11,9 @@ pub struct Link {
     pub index: u16,
 }
 
-// A record by its place in the table. Its word 0 names the next record of its chain; what the
-// others mean depends on what the record stands for:
+// A record by its place in the table, by which other records name it: that is the layout of tables, in
+// which 0 ends a chain. Its word 0 names the next record of its chain; what the others mean depends on
+// what the record stands for:
 //   head        next: first symbol, w1: first production, w2: start symbol
 //   symbol      w1: kind, w2: first attribute
 //   attribute   w1: kind

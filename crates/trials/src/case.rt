@@ -50,6 +50,7 @@ enum Word {
 #[derive(Clone, Copy)]
 struct Record([Word; WORDS]);
 
+// Two impls, since std has two errors for want of memory and `?` takes either.
 impl From<AllocError> for Unreadable {
     fn from(_error: AllocError) -> Unreadable {
         Unreadable::Memory

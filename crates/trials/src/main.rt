@@ -19,6 +19,7 @@ use trees::check_tree;
 // What comes of the case's table, and of its nodes or its plan, if it has any.
 fn outcome_of(heap: Global, case: &Case) -> Result<Outcome, Refusal> {
     let table = case.table.as_slice();
+    // A match, since kinds are types whose values differ in type, which no `dyn` covers.
     let mut book = match case.kind {
         Kind::Lengths => load(heap, table, &Lengths),
         Kind::Marks => load(heap, table, &Marks),

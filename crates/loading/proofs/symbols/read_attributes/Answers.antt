@@ -23,7 +23,7 @@ returns-then-len-before-eq-MOST_OF_ONE_SYMBOL c =
         | then-len-before-eq-MOST_OF_ONE_SYMBOL-via-else-len-before-eq-MOST_OF_ONE_SYMBOL+then-len-eq-MOST_ATTRIBUTES w ↦
             let full : 64 ≤ length (vec_items c.attributes.attributes) = omega arith in
             inr (stopped c.attributes.invariant.3 c.in_ok-found.ensures.value c.in-Some.is (omega arith)
-            (attribute_passed c.args.table.now.bytes.now c.args.number c.args.symbol c.args.starts (vec_items c.attributes.attributes) c.in-Some.found c.follow.new.reached full))
+            (attribute_passed c.args.table.now.bytes.now c.args.owner.number c.args.owner.kind c.args.owner.starts (vec_items c.attributes.attributes) c.in-Some.found c.follow.new.reached full))
       ];
     }
 
@@ -35,7 +35,7 @@ returns-in_default-attribute_kind c =
       few = tt;
       more = tt;
       value = inr (stopped c.attributes.invariant.3 c.in_ok-found.ensures.value c.in-Some.is (omega arith)
-          (attribute_bad c.args.table.now.bytes.now c.args.number c.args.symbol c.args.starts (vec_items c.attributes.attributes) c.in-Some.found c.follow.new.reached less
+          (attribute_bad c.args.table.now.bytes.now c.args.owner.number c.args.owner.kind c.args.owner.starts (vec_items c.attributes.attributes) c.in-Some.found c.follow.new.reached less
           c.in_default-attribute_kind.ensures));
     }
 
@@ -44,13 +44,13 @@ attributes-preserved c =
     let ok = ap is_ok c.in_ok-push.was in
     let long = c.attributes.attributes.ok.0 in
     let less : length (vec_items c.attributes.attributes) < 64 = omega arith in
-    let pushed : vec_items c.push.new.self ≡ vec_items c.attributes.attributes ++ record { symbol = c.args.number; kind = c.in-Some-attribute_kind.kind } ∷ [] = chosen _ _ _ _ c.push.ensures.items ok in
+    let pushed : vec_items c.push.new.self ≡ vec_items c.attributes.attributes ++ record { symbol = c.args.owner.number; kind = c.in-Some-attribute_kind.kind } ∷ [] = chosen _ _ _ _ c.push.ensures.items ok in
     let one : vec_len c.push.new.self ≡ vec_len c.attributes.attributes + 1 = chosen _ _ _ _ c.push.ensures.len ok in (
       omega arith,
       omega arith,
       omega arith,
       rw pushed (more c.attributes.invariant.3 c.in_ok-found.ensures.value c.in-Some.is (omega arith)
-          (attribute_more c.args.table.now.bytes.now c.args.number c.args.symbol c.args.starts (vec_items c.attributes.attributes) c.in-Some.found c.follow.new.reached less
+          (attribute_more c.args.table.now.bytes.now c.args.owner.number c.args.owner.kind c.args.owner.starts (vec_items c.attributes.attributes) c.in-Some.found c.follow.new.reached less
           c.in-Some-attribute_kind.kind c.in-Some-attribute_kind.ensures) (omega arith) c.next_link-link.ensures),
     )
 
