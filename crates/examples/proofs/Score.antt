@@ -12,7 +12,8 @@ use Rattle.grammar.specs.Numberings.{Valid}
 use Rattle.tables.proofs.Accepting.{accepted_is_lawful}
 use Rattle.numbering.specs.Deletion.{member, keep, none, delete, remaining, number, after, numbering}
 use Rattle.numbering.proofs.GrammarDeletion.{deletion_numbers_grammars}
-use Rattle.trees.specs.Trees.{Apart, Stands, tree_numbers}
+use Rattle.grammar.specs.Members.{Apart}
+use Rattle.trees.specs.Trees.{Stands, tree_numbers}
 use Rattle.walk.specs.Programs.{execution}
 use Rattle.walk.specs.Passes.{Task}
 use Rattle.walk.specs.Evaluation.{CarriedOut}

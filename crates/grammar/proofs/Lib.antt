@@ -4,6 +4,7 @@ pub mod Elements
 pub mod FirstNumbers
 pub mod FoundRules
 pub mod Labels
+pub mod Marks
 pub mod Members
 pub mod Relations
 pub mod Slots

@@ -13,7 +13,7 @@ use Rattle.tables.specs.Tables.{RulePlaces, ProductionPlaces, Outline, ChainedRu
 use Rattle.tables.specs.Theorems.{AcceptedIsLawful}
 use Rattle.tables.proofs.Sizes.{sized_is}
 use Rattle.tables.proofs.Outcomes.{same_value, test_held, both_read, had_value}
-use Rattle.tables.proofs.Marks.{Fresh, fresh_append, apart_from_fresh}
+use Rattle.grammar.proofs.Marks.{Fresh, fresh_append, apart_from_fresh}
 use Rattle.tables.proofs.Readings.{Held}
 use Rattle.tables.proofs.Rules.{rule_rest, GoodRule, may_follow, one_rule_more}
 use Rattle.tables.proofs.Productions.{left_of, right_of, GoodProduction, Produced, productions_read}

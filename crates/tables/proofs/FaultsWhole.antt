@@ -9,7 +9,7 @@ use Rattle.tables.specs.Chains.{word, sized}
 use Rattle.tables.specs.Reading.{symbols, productions, over, after_symbols, whole, value}
 use Rattle.tables.specs.Faults.{Spot, at_symbol, at_production, Writes, wrong_start, Fault, RefusalNamesAFault}
 use Rattle.tables.proofs.Sizes.{is_sized, sized_is}
-use Rattle.tables.proofs.Marks.{unmarked}
+use Rattle.grammar.proofs.Marks.{unmarked}
 use Rattle.tables.proofs.Free.{free_most}
 use Rattle.tables.proofs.FaultsComes.{Comes, comes_then, comes_cond}
 use Rattle.tables.proofs.FaultsChains.{Marks, marks_onward}

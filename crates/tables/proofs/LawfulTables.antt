@@ -13,7 +13,8 @@ use Rattle.tables.specs.Tables.{Chain, SymbolPlaces, RulePlaces, ProductionPlace
 use Rattle.tables.specs.Theorems.{LawfulIsAccepted}
 use Rattle.tables.proofs.Free.{free_most}
 use Rattle.tables.proofs.Elements.{all_unmap, all_with}
-use Rattle.tables.proofs.Marks.{reach, Fresh, fresh_left, fresh_right, fresh_from_apart, fresh_few, unmarked}
+use Rattle.grammar.proofs.Marks.{reach, Fresh, fresh_left, fresh_right, fresh_from_apart, unmarked}
+use Rattle.tables.proofs.Marks.{fresh_few}
 use Rattle.tables.proofs.Readings.{Held}
 use Rattle.tables.proofs.Rules.{rule_rest, GoodRule, may_follow, one_rule_more}
 use Rattle.tables.proofs.Productions.{left_of, right_of, GoodProduction, productions_go}

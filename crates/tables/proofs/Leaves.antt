@@ -7,7 +7,7 @@ use Rattle.tables.specs.declared.record.Record.{Record}
 use Rattle.tables.specs.Chains.{Reading, along}
 use Rattle.tables.specs.Tables.{Chain, joined}
 use Rattle.tables.proofs.Outcomes.{same_value}
-use Rattle.tables.proofs.Marks.{reach, Fresh}
+use Rattle.grammar.proofs.Marks.{reach, Fresh}
 use Rattle.tables.proofs.Readings.{gathered, Held, Took, Sound, Complete, chain_read, chain_goes}
 
 -- what is gathered, where each item adds one element

@@ -8,7 +8,7 @@ use Rattle.tables.specs.Chains.{and_then, word, record_at, along}
 use Rattle.tables.specs.Reading.{position, rule, production, finished_production, productions}
 use Rattle.tables.specs.Tables.{Chain, ProductionPlaces, production_place, production_records, rule_place, rule_records, rule_at, production_at, joined}
 use Rattle.tables.proofs.Outcomes.{same_value, test_held, both_read}
-use Rattle.tables.proofs.Marks.{reach, Fresh, reach_append, fresh_append, fresh_left, fresh_right}
+use Rattle.grammar.proofs.Marks.{reach, Fresh, reach_append, fresh_append, fresh_left, fresh_right}
 use Rattle.tables.proofs.Readings.{Held, Took, Sound, Complete, chain_read, chain_goes}
 use Rattle.tables.proofs.Leaves.{gathered_list, all_from_held, held_from_all}
 use Rattle.tables.proofs.Rules.{positions_read, positions_go, rule_rest, may_follow, one_rule_more, rule_sound, rule_complete}

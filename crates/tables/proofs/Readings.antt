@@ -6,7 +6,7 @@ use Rattle.tables.specs.declared.record.Record.{Record}
 use Rattle.tables.specs.Chains.{Reading, and_then, word, record_at, lost, follow, met, along}
 use Rattle.tables.specs.Tables.{Chain, joined}
 use Rattle.tables.proofs.Outcomes.{not_refused, same_value, both_read}
-use Rattle.tables.proofs.Marks.{reach, Fresh, reach_append, fresh_append, fresh_left, fresh_right}
+use Rattle.grammar.proofs.Marks.{reach, Fresh, reach_append, fresh_append, fresh_left, fresh_right}
 
 -- Each item has a record at its place and owns the rest of its records; P says when it may come after what was gathered.
 module _ {X B : Type 0} (place : X → ℕ) (rest : X → List ℕ) (P : B → X → Type 0) (next : B → X → B) where

@@ -12,7 +12,7 @@ use Rattle.tables.specs.Reading.{position, argument, rule, wants_rule, finished_
 use Rattle.tables.specs.Tables.{Chain, RulePlaces, rule_place, occurrence_at, rule_at}
 use Rattle.tables.proofs.Elements.{all_unmap}
 use Rattle.tables.proofs.Outcomes.{same_value, test_held, test_failed, both_read}
-use Rattle.tables.proofs.Marks.{reach, Fresh}
+use Rattle.grammar.proofs.Marks.{reach, Fresh}
 use Rattle.tables.proofs.Readings.{Sound, Complete}
 use Rattle.tables.proofs.Leaves.{gathered_list, all_from_held, held_from_all, itself, nothing, leaf_took, leaves_read, leaves_go}
 

@@ -15,7 +15,7 @@ use Rattle.tables.specs.Reading.{Gathered, require, standing, attribute, attribu
 use Rattle.tables.specs.Tables.{Chain, SymbolPlaces, symbol_place, symbol_records, joined}
 use Rattle.tables.proofs.Words.{symbol_kind_of, attribute_kind_of, symbol_kind_is, attribute_kind_is, standing_known}
 use Rattle.tables.proofs.Outcomes.{same_value, test_failed, both_read, was_there}
-use Rattle.tables.proofs.Marks.{reach, Fresh}
+use Rattle.grammar.proofs.Marks.{reach, Fresh}
 use Rattle.tables.proofs.Readings.{gathered, Held, Took, Sound, Complete, chain_read, chain_goes}
 use Rattle.tables.proofs.Leaves.{gathered_list, itself, nothing, leaf_took, leaves_read, leaves_go}
 

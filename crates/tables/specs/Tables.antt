@@ -6,7 +6,7 @@ use Rattle.grammar.specs.declared.vocabulary.SymbolKind.TheVariants.{Inner, Term
 use Rattle.grammar.specs.declared.vocabulary.AttributeKind.{AttributeKind}
 use Rattle.grammar.specs.declared.vocabulary.AttributeKind.TheVariants.{Inherited, Synthesized, Given}
 use Rattle.grammar.specs.declared.production.Occurrence.{Occurrence}
-use Rattle.grammar.specs.Members.{◌∈◌}
+use Rattle.grammar.specs.Members.{◌∈◌, Apart}
 use Rattle.grammar.specs.Grammar.{Rule, Production, Grammar}
 use Rattle.tables.specs.Chains.{word}
 
@@ -71,11 +71,6 @@ production_records p = p.place ∷ (p.positions ++ joined (map rule_records p.ru
 
 abbrev pub all_records : Outline → List ℕ
 all_records o = joined (map symbol_records o.symbols) ++ joined (map production_records o.productions)
-
--- no record stands in two places
-abbrev pub Apart : List ℕ → Type 0
-Apart [] = Unit {0}
-Apart (x ∷ xs) = (x ∈ xs → ⊥) × Apart xs
 
 -- the words for kinds
 abbrev pub symbol_word : SymbolKind → ℕ

@@ -12,7 +12,8 @@ use Rattle.trees.specs.Checking.{node, fits, children_symbols, children, subtree
 use Rattle.trees.specs.Trees.{Forest, none, brother, Tree, numbers, tree_numbers, tree_depth, Holds, Stands}
 use Rattle.trees.specs.Theorems.{AcceptedHoldsATree, TreesAreAccepted, TreeIsUnique}
 use Rattle.trees.proofs.Outcomes.{test_held}
-use Rattle.trees.proofs.Marks.{reach, Fresh, apart_from_fresh, fresh_from_apart, reached_or_marked, reached_is_marked, none_reached}
+use Rattle.grammar.proofs.Marks.{reach, Fresh, apart_from_fresh, fresh_from_apart, unmarked}
+use Rattle.trees.proofs.Marks.{reached_or_marked, reached_is_marked}
 use Rattle.trees.proofs.Growing.{subtree_grown, children_go}
 
 module _ (g : Grammar) (nodes : List Node) where
@@ -36,7 +37,7 @@ module _ (g : Grammar) (nodes : List Node) where
       let blank = replicate 4096 false in
       let w = subtree_grown g nodes few 64 0 g.vocabulary.start (set blank 0 true) s e in
       let ns = 0 ∷ numbers w.below in
-      let fresh : Fresh ns blank = (omega arith, none_reached 0, w.fresh) in
+      let fresh : Fresh ns blank = (omega arith, unmarked 4096 0, w.fresh) in
       let t : Tree = record { symbol = g.vocabulary.start; production = (node nodes 0).production; children = w.below } in (
         t,
         record {
@@ -49,7 +50,7 @@ module _ (g : Grammar) (nodes : List Node) where
           once = apart_from_fresh ns blank (length-replicate 4096 false) fresh;
           all = λ n l. elim (reached_or_marked ns blank n (ap (λ m. get_or m n false) (sym w.marks) ∙ all_marked 0 (length nodes) s all n (omega arith) (omega arith))) [
             | inl m ↦ m
-            | inr h ↦ absurd (both_ways (get_or blank n false) (none_reached n) h)
+            | inr h ↦ absurd (both_ways (get_or blank n false) (unmarked 4096 n) h)
           ];
         },
         w.shallow,
@@ -77,7 +78,7 @@ trees_are_accepted g nodes t some few st l =
     let x = g.vocabulary.start in
     let p = (node nodes 0).production in
     let i = (node nodes 0).first_child in
-    let fresh : Fresh ns blank = fresh_from_apart ns blank (omega arith, numbers_low nodes t.children i few st.held) st.once (λ n m. none_reached n) in
+    let fresh : Fresh ns blank = fresh_from_apart ns blank (omega arith, numbers_low nodes t.children i few st.held) st.once (λ n m. unmarked 4096 n) in
     let fit : fits g x p ≡ true = ap (fits g x) st.root_production ∙ ap (λ y. fits g y t.production) (sym st.start) ∙ st.root_fits in
     cond-true (leb 1 (length nodes) && leb (length nodes) 4096) _ _ (and_from _ _ (le-leb 1 (length nodes) some) (le-leb (length nodes) 4096 few))
     ∙ ap (then_all g nodes) (

@@ -6,7 +6,7 @@ use Rattle.trees.specs.declared.node.Node.{Node}
 use Rattle.trees.specs.Checking.{node, fits, children_symbols, and_then, children, subtree}
 use Rattle.trees.specs.Trees.{Forest, none, brother, numbers, depth, Derived, Holds}
 use Rattle.trees.proofs.Outcomes.{test_held, test_failed, both_held}
-use Rattle.trees.proofs.Marks.{reach, Fresh, reach_append, fresh_append, fresh_left, fresh_right}
+use Rattle.grammar.proofs.Marks.{reach, Fresh, reach_append, fresh_append, fresh_left, fresh_right}
 
 -- brothers that are checked, from the marks before to the marks after
 pub record Grown (g : Grammar) (nodes : List Node) (room index : ℕ) (ss : List ℕ) (s s' : List Bool) : Type 0 where

@@ -1,7 +1,7 @@
 -- Members of joined lists, and lists without repetition.
 use Rattle.std.proofs.Common.{◌⊎◌, List, [], ◌∷◌, ◌++◌, refl, subst, inl, inr}
 use Rattle.grammar.specs.Members.{◌∈◌}
-use Rattle.trees.specs.Trees.{Apart}
+use Rattle.grammar.specs.Members.{Apart}
 
 module _ {A : Type 0} where
   pub in_left : (xs ys : List A) (x : A) → x ∈ xs → x ∈ (xs ++ ys)

@@ -1,7 +1,8 @@
 -- Every node but the root has one parent and one position.
 use Rattle.std.proofs.Common.{◌≡◌, ℕ, suc, ◌⊎◌, List, ◌++◌, sym, refl, ◌∙◌, subst, inl, inr}
 use Rattle.grammar.specs.Members.{◌∈◌}
-use Rattle.trees.specs.Trees.{Forest, none, brother, numbers, Apart}
+use Rattle.grammar.specs.Members.{Apart}
+use Rattle.trees.specs.Trees.{Forest, none, brother, numbers}
 use Rattle.trees.specs.Laws.{ChildAmong, ParentIsUnique, EveryNodeHasAParent}
 use Rattle.trees.proofs.Lists.{in_left, in_right, in_either, apart_left, apart_right, never_both}
 

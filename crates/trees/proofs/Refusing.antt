@@ -12,7 +12,8 @@ use Rattle.trees.specs.Checking.{node, children_symbols, subtree, all_reached, t
 use Rattle.trees.specs.Trees.{Forest, none, brother, numbers, Derived, Holds}
 use Rattle.trees.specs.Faults.{link, wanted, Leads, Stray, Fault, RefusalNamesAFault}
 use Rattle.trees.proofs.Lists.{in_left, in_right}
-use Rattle.trees.proofs.Marks.{Fresh, none_reached, reached_is_marked}
+use Rattle.grammar.proofs.Marks.{Fresh, unmarked}
+use Rattle.trees.proofs.Marks.{reached_is_marked}
 use Rattle.trees.proofs.Growing.{subtree_grown}
 use Rattle.trees.proofs.Comes.{Comes}
 use Rattle.trees.proofs.Marking.{Marks, Done, marks_more, subtree_comes}
@@ -77,17 +78,17 @@ module _ (g : Grammar) (nodes : List Node) where
   missing n (suc count) s e h = missing_at n count s e (get_or s n false) refl (missing (suc n) count s e) h
 
   no_marks : Marks g nodes [] (replicate 4096 false)
-  no_marks m h = absurd (both_ways (get_or (replicate 4096 false) m false) (none_reached m) h)
+  no_marks m h = absurd (both_ways (get_or (replicate 4096 false) m false) (unmarked 4096 m) h)
 
   left_out : (s : List Bool) → length nodes ≤ 4096 → subtree g nodes 64 0 g.vocabulary.start (set (replicate 4096 false) 0 true) ≡ Ok s
       → (h : ℕ) → h < length nodes → get_or s h false ≡ false → Stray g nodes h
-  left_out s few e h within unmarked =
+  left_out s few e h within missed =
       let blank = replicate 4096 false in
       let w = subtree_grown g nodes few 64 0 g.vocabulary.start (set blank 0 true) s e in
       let ns = 0 ∷ numbers w.below in
-      let fresh : Fresh ns blank = (omega arith, none_reached 0, w.fresh) in (
+      let fresh : Fresh ns blank = (omega arith, unmarked 4096 0, w.fresh) in (
         within,
-        λ path x r. both_ways (get_or s h false) unmarked (
+        λ path x r. both_ways (get_or s h false) missed (
             ap (λ m. get_or m h false) w.marks ∙ reached_is_marked ns blank h (length-replicate 4096 false) fresh (led path 0 g.vocabulary.start h x w.below w.holds w.derived r)
             ),
       )

@@ -5,7 +5,8 @@ use Rattle.grammar.specs.Grammar.{Vocabulary, Grammar, symbol}
 use Rattle.grammar.specs.Lawful.{Lawful}
 use Rattle.trees.specs.declared.node.Node.{Node}
 use Rattle.trees.specs.Checking.{node, fits, children_symbols}
-use Rattle.trees.specs.Trees.{Forest, none, brother, Tree, tree_numbers, Derived, Apart, Stands}
+use Rattle.grammar.specs.Members.{Apart}
+use Rattle.trees.specs.Trees.{Forest, none, brother, Tree, tree_numbers, Derived, Stands}
 
 -- the symbols of the brothers, in order
 abbrev pub symbols_of : Forest → List ℕ

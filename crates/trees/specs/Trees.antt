@@ -1,6 +1,6 @@
 -- Derivation trees of a grammar, and the rows of nodes that hold one.
 use Rattle.std.specs.Prelude.{◌≡◌, ℕ, suc, ◌<◌, ◌≤◌, max, true, List, [], ◌∷◌, ◌++◌, length}
-use Rattle.grammar.specs.Members.{◌∈◌}
+use Rattle.grammar.specs.Members.{◌∈◌, Apart}
 use Rattle.grammar.specs.Grammar.{Grammar}
 use Rattle.trees.specs.declared.node.Node.{Node}
 use Rattle.trees.specs.Checking.{node, fits, children_symbols}
@@ -45,11 +45,6 @@ Holds nodes index none = index ≡ 0
 Holds nodes index (brother n s p below rest) =
     (index ≡ n) × (1 ≤ n) × (n < length nodes) × ((node nodes n).symbol ≡ s) × ((node nodes n).production ≡ p)
     × Holds nodes (node nodes n).first_child below × Holds nodes (node nodes n).next_brother rest
-
--- none stands in two places
-abbrev pub Apart : {A : Type 0} → List A → Type 0
-Apart [] = Unit {0}
-Apart (x ∷ xs) = (x ∈ xs → ⊥) × Apart xs
 
 -- The row of nodes holds a derivation tree of the grammar from its start symbol: every node of the row once, and nothing else.
 pub record Stands (g : Grammar) (nodes : List Node) (t : Tree) : Type 0 where

@@ -7,7 +7,7 @@ use Rattle.std.proofs.lemmas.Grind.{common_steps}
 use Rattle.plans.specs.declared.Direction.{Direction}
 use Rattle.plans.specs.declared.Direction.TheVariants.{Left, Right}
 use Rattle.grammar.specs.Members.{◌∈◌}
-use Rattle.trees.specs.Trees.{Apart}
+use Rattle.grammar.specs.Members.{Apart}
 use Rattle.walk.specs.Walks.{joined, Inside, OnceEach}
 
 module _ {A : Type 0} where

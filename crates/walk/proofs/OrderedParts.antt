@@ -2,7 +2,7 @@
 use Rattle.std.proofs.Common.{◌≡◌, ℕ, ◌≢◌, List, [], ◌∷◌, ◌++◌, map, sym, refl, ap, subst, inl, inr}
 use Rattle.std.specs.List.{flat_map}
 use Rattle.grammar.specs.Members.{◌∈◌}
-use Rattle.trees.specs.Trees.{Apart}
+use Rattle.grammar.specs.Members.{Apart}
 use Rattle.trees.proofs.Lists.{in_either}
 use Rattle.walk.specs.Programs.{Assignment, Ordered}
 use Rattle.walk.specs.Walks.{Step}

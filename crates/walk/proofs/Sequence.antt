@@ -3,7 +3,7 @@ use Rattle.std.proofs.Common.{◌≡◌, ◌⊎◌, List, [], ◌∷◌, ◌++�
 use Rattle.grammar.specs.Members.{◌∈◌}
 use Rattle.plans.specs.declared.Direction.{Direction}
 use Rattle.plans.specs.declared.Direction.TheVariants.{Left, Right}
-use Rattle.trees.specs.Trees.{Apart}
+use Rattle.grammar.specs.Members.{Apart}
 use Rattle.trees.proofs.Lists.{in_left, in_right, apart_append}
 use Rattle.walk.specs.Walks.{Step, joined}
 use Rattle.walk.specs.Turns.{Earlier}

@@ -13,7 +13,7 @@ use Rattle.grammar.specs.Rules.{same}
 use Rattle.grammar.specs.Numberings.{direction}
 use Rattle.trees.specs.declared.node.Node.{Node}
 use Rattle.trees.specs.Checking.{node}
-use Rattle.trees.specs.Trees.{Apart}
+use Rattle.grammar.specs.Members.{Apart}
 use Rattle.trees.specs.Laws.{Child, HasAttribute}
 use Rattle.trees.proofs.Symbols.{child_has_its_symbol}
 use Rattle.trees.proofs.Parents.{parent_is_unique}

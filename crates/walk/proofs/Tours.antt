@@ -7,7 +7,8 @@ use Rattle.plans.specs.declared.Direction.TheVariants.{Left, Right}
 use Rattle.grammar.specs.Members.{◌∈◌}
 use Rattle.grammar.specs.Grammar.{Grammar}
 use Rattle.trees.specs.Checking.{children_symbols}
-use Rattle.trees.specs.Trees.{Forest, none, brother, numbers, Derived, Apart}
+use Rattle.grammar.specs.Members.{Apart}
+use Rattle.trees.specs.Trees.{Forest, none, brother, numbers, Derived}
 use Rattle.trees.specs.Laws.{Within, ChildAmong}
 use Rattle.trees.proofs.Lists.{apart_left, apart_right, never_both, in_left, in_right, in_either, apart_append}
 use Rattle.walk.specs.Walks.{Step, enter, leave, inners, joined, tour, entered, left, inner_children, visit, Inside, WalkLength, WalkEntersEachOnce, WalkLeavesEachOnce, BrothersAreVisitedInOrder, WalkNests}

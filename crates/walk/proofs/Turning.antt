@@ -6,7 +6,8 @@ use Rattle.plans.specs.declared.Direction.TheVariants.{Left, Right}
 use Rattle.grammar.specs.Members.{◌∈◌}
 use Rattle.grammar.specs.Grammar.{Grammar}
 use Rattle.trees.specs.declared.node.Node.{Node}
-use Rattle.trees.specs.Trees.{Forest, none, brother, Tree, numbers, Derived, Apart, Stands}
+use Rattle.grammar.specs.Members.{Apart}
+use Rattle.trees.specs.Trees.{Forest, none, brother, Tree, numbers, Derived, Stands}
 use Rattle.trees.specs.Laws.{ChildAmong, Child}
 use Rattle.trees.specs.Checking.{children_symbols}
 use Rattle.trees.proofs.Lists.{apart_left, apart_right, never_both, in_left, in_right, in_either, apart_append}

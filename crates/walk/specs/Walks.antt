@@ -8,7 +8,8 @@ use Rattle.grammar.specs.Grammar.{Grammar, is_inner}
 use Rattle.grammar.specs.Lawful.{Lawful}
 use Rattle.trees.specs.declared.node.Node.{Node}
 use Rattle.trees.specs.Checking.{node}
-use Rattle.trees.specs.Trees.{Forest, none, brother, Tree, tree_numbers, Apart, Stands}
+use Rattle.grammar.specs.Members.{Apart}
+use Rattle.trees.specs.Trees.{Forest, none, brother, Tree, tree_numbers, Stands}
 use Rattle.trees.specs.Laws.{Within, Child}
 
 -- a step enters the child at a position of its parent, or leaves a node
