@@ -41,6 +41,7 @@ pub fn load<K: ValueKind>(heap: Global, bytes: &[u8], kind: &K) -> Result<Book, 
     )?;
     let numbers = unnumbered(vocabulary.attributes.as_slice());
     let wanted = wanting(vocabulary.attributes.as_slice());
+    let directions = Directions::new();
     Ok(Book {
         vocabulary,
         productions,
@@ -48,6 +49,6 @@ pub fn load<K: ValueKind>(heap: Global, bytes: &[u8], kind: &K) -> Result<Book, 
         numbers,
         passes: 0,
         unnumbered: wanted,
-        directions: Directions::new(),
+        directions,
     })
 }

@@ -92,7 +92,15 @@ impl<'a> Pass<'a> {
         requires { place < 64 }
         ensures { MatchBool result ((p : ℕ) × (holds self.now.predecessors.now p place ≡ true) × (has self.now.waiting p ≡ true) × ((has candidates p && not (holds self.now.bars.now p place)) ≡ false)) ((p : ℕ) → holds self.now.predecessors.now p place ≡ true → has self.now.waiting p ≡ true → (has candidates p && not (holds self.now.bars.now p place)) ≡ true) }
     {
-        let in_the_way = self.waiting - (candidates - self.bars[place]);
-        self.predecessors[place].meets(in_the_way)
+        self.predecessors[place].meets(self.in_the_way(place, candidates))
+    }
+
+    // What waits, except the candidates that stand behind no bar.
+    #[tactic(auto, unfolding(crate::specs::Places::holds))]
+    fn in_the_way(&self, place: usize, candidates: Places) -> Places
+        requires { place < 64 }
+        ensures { (p : ℕ) → has result p ≡ (has self.now.waiting p && not (has candidates p && not (holds self.now.bars.now p place))) }
+    {
+        self.waiting - (candidates - self.bars[place])
     }
 }

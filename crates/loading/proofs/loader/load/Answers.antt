@@ -50,7 +50,7 @@ invariant_of-result g c =
     record {
       lawful = ∣ lawful ∣₁;
       labelled = c.in_ok-productions.ensures.board;
-      numbered = ∣ subst (λ ds. Numbered (grammar_view c.in_ok-vocabulary.vocabulary c.in_ok-productions.productions) ds c.unnumbered-numbers.result 0 c.wanting-wanted.result) (sym c.new-2.ensures) fresh ∣₁;
+      numbered = ∣ subst (λ ds. Numbered (grammar_view c.in_ok-vocabulary.vocabulary c.in_ok-productions.productions) ds c.unnumbered-numbers.result 0 c.wanting-wanted.result) (sym c.new-directions.ensures) fresh ∣₁;
     }
 
 pub returns : goal.returns
@@ -66,5 +66,5 @@ returns g c =
       reading = rw (← same) read;
       judges = rw (← same) (acceptable bytes admitted _ read);
       numbers = c.unnumbered-numbers.ensures.whole few ∙ ap unnumbered c.as_slice.ensures.value;
-      passes = (refl, c.new-2.ensures);
+      passes = (refl, c.new-directions.ensures);
     }

@@ -10,9 +10,9 @@ loop-pass-preserved g c =
     let ds = g.P.Plan.directions c.args.plan.now in
     let high : c.loop-pass.pass ≤ length ds = omega (arith, c.passes-pass-end.ensures) in
     elim c.match-direction.branch [
-      | in-Some w ↦ w.directions-is ∙ one_more ds c.loop-pass.pass c.loop-pass.auto.pass high c.direction.result c.direction.ensures (g.met.P.Plan.bounded c.args.plan.now).1 w.in-Some.direction
+      | in-Some w ↦ w.directions-is ∙ one_more ds c.loop-pass.pass (omega arith) high c.direction.result c.direction.ensures (g.met.P.Plan.bounded c.args.plan.now).1 w.in-Some.direction
           w.push.result c.loop-pass.directions w.push.new.self w.in-Some.is c.loop-pass.invariant w.push.ensures.room.1 w.push.ensures.pushed
-      | in_default w ↦ absurd (never_none ds c.loop-pass.pass c.loop-pass.auto.pass high c.direction.result c.direction.ensures w.in_default.is)
+      | in_default w ↦ absurd (never_none ds c.loop-pass.pass (omega arith) high c.direction.result c.direction.ensures w.in_default.is)
     ]
 
 pub returns-after-direction : goal.returns-after-direction
@@ -21,7 +21,7 @@ returns-after-direction g c =
     let high : c.loop-pass.pass ≤ length ds = omega (arith, c.passes-pass-end.ensures) in
     let last : length ds ≤ c.loop-pass.pass + 1 - 1 = omega (arith, c.passes-pass-end.ensures) in
     elim c.match-direction.branch [
-      | in-Some w ↦ w.directions-is ∙ one_more ds c.loop-pass.pass c.loop-pass.auto.pass high c.direction.result c.direction.ensures (g.met.P.Plan.bounded c.args.plan.now).1 w.in-Some.direction
+      | in-Some w ↦ w.directions-is ∙ one_more ds c.loop-pass.pass (omega arith) high c.direction.result c.direction.ensures (g.met.P.Plan.bounded c.args.plan.now).1 w.in-Some.direction
           w.push.result c.loop-pass.directions w.push.new.self w.in-Some.is c.loop-pass.invariant w.push.ensures.room.1 w.push.ensures.pushed ∙ take_all (c.loop-pass.pass + 1 - 1) ds last
-      | in_default w ↦ absurd (never_none ds c.loop-pass.pass c.loop-pass.auto.pass high c.direction.result c.direction.ensures w.in_default.is)
+      | in_default w ↦ absurd (never_none ds c.loop-pass.pass (omega arith) high c.direction.result c.direction.ensures w.in_default.is)
     ]
