@@ -6,7 +6,7 @@ use Rattle.grammar.specs.declared.vocabulary.SymbolKind.TheVariants.{Inner, Term
 use Rattle.grammar.specs.declared.vocabulary.AttributeKind.{AttributeKind}
 use Rattle.grammar.specs.declared.vocabulary.AttributeKind.TheVariants.{Inherited, Synthesized, Given}
 use Rattle.grammar.specs.declared.production.Occurrence.{Occurrence}
-use Rattle.grammar.specs.Members.{◌∈◌, Apart}
+use Rattle.grammar.specs.Members.{Apart}
 use Rattle.grammar.specs.Grammar.{Rule, Production, Grammar}
 use Rattle.tables.specs.Chains.{word}
 
