@@ -54,7 +54,8 @@ pub fn first_unnumbered(unnumbered: Places) -> Option<u16>
     unnumbered.first().map(|place| place as u16 + 1)
 }
 
-// Works on places: an attribute's place is its number less 1.
+// Works on places: an attribute's place is its number less 1. The bounds are those of a book and of a plan, whose
+// parts these are.
 fn number_places(
     arcs: &Board,
     attributes: &[Attribute],

@@ -92,15 +92,14 @@ impl<'a> Pass<'a> {
         requires { place < 64 }
         ensures { MatchBool result ((p : ℕ) × (holds self.now.predecessors.now p place ≡ true) × (has self.now.waiting p ≡ true) × ((has candidates p && not (holds self.now.bars.now p place)) ≡ false)) ((p : ℕ) → holds self.now.predecessors.now p place ≡ true → has self.now.waiting p ≡ true → (has candidates p && not (holds self.now.bars.now p place)) ≡ true) }
     {
-        self.predecessors[place].meets(self.in_the_way(place, candidates))
+        let in_the_way = self.in_the_way(self.bars[place], candidates);
+        self.predecessors[place].meets(in_the_way)
     }
 
     // What waits, except the candidates that stand behind no bar.
-    #[tactic(auto, unfolding(crate::specs::Places::holds))]
-    fn in_the_way(&self, place: usize, candidates: Places) -> Places
-        requires { place < 64 }
-        ensures { (p : ℕ) → has result p ≡ (has self.now.waiting p && not (has candidates p && not (holds self.now.bars.now p place))) }
+    fn in_the_way(&self, bars: Places, candidates: Places) -> Places
+        ensures { (p : ℕ) → has result p ≡ (has self.now.waiting p && not (has candidates p && not (has bars p))) }
     {
-        self.waiting - (candidates - self.bars[place])
+        self.waiting - (candidates - bars)
     }
 }

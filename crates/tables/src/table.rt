@@ -28,6 +28,7 @@ fn word_at(bytes: &[u8], place: usize, k: usize) -> u16
     u16::from_le_bytes([bytes[at], bytes[at + 1]])
 }
 
+// No `From`: a record is made of the table's bytes and its place.
 fn record_at(bytes: &[u8], place: u16) -> Record
     requires { 12 * place + 12 ≤ length bytes.now }
     ensures { result ≡ record_at bytes.now place }

@@ -72,7 +72,8 @@ impl Row<'_> {
         }
     }
 
-    // Reaches the child that an index of the holder names.
+    // Reaches the child that an index of the holder names. Tables follow their links alike, but neither crate stands
+    // on the other, and a type for the two would need a third.
     fn reach(&mut self, holder: u16, index: u16) -> Result<(), Refusal>
         ensures nodes { self.new.nodes ≡ self.old.nodes }
         ensures reached { outcome result self.new.reached ≡ reaching self.old.nodes.now holder index self.old.reached }
