@@ -1,5 +1,5 @@
 -- The number in a slot is that of the occurrence's rule.
-use Rattle.std.proofs.Common.{◌≡◌, ℕ, suc, ◌+◌, ◌-◌, ◌*◌, List, [], ◌∷◌, map, get_or, ◌⊎◌, None, sym, refl, ap, ◌∙◌, inl, inr, arith}
+use Rattle.std.proofs.Common.{◌≡◌, ℕ, suc, ◌+◌, List, [], ◌∷◌, map, get_or, ◌⊎◌, None, sym, refl, ap, ◌∙◌, inl, inr, arith}
 use Rattle.std.specs.List.{slice_get}
 use Rattle.std.specs.Option.{option_map}
 use Rattle.std.proofs.lemmas.Bool.{cases_Bool}
@@ -24,11 +24,9 @@ found n (r ∷ rules) o = elim (cases_Bool (same r.target o)) [
 ]
 
 pub rule_in_slot : (slots : List ℕ) (rules : List Rule) (o : Occurrence) → Indexed slots (map target_of rules) → Within o
-    → option_map rule_view (numbered rules (get_or slots (64 * o.position + o.attribute - 1) 0)) ≡ rule_of (map rule_view rules) o
+    → option_map rule_view (numbered rules (get_or slots (slot o) 0)) ≡ rule_of (map rule_view rules) o
 rule_in_slot slots rules o indexed within =
-    let here : 64 * o.position + o.attribute - 1 ≡ slot o = omega (arith, within.1) in
-    ap (λ k. option_map rule_view (numbered rules (get_or slots k 0))) here
-    ∙ ap (λ n. option_map rule_view (numbered rules n)) (indexed o within)
+    ap (λ n. option_map rule_view (numbered rules n)) (indexed o within)
     ∙ elim (found 1 rules o) [
       | inl none ↦ ap (λ n. option_map rule_view (numbered rules n)) none.0 ∙ sym none.1
       | inr some ↦ ap (λ n. option_map rule_view (numbered rules n)) {y = suc some.0} (some.1 ∙ omega arith) ∙ some.2

@@ -1,5 +1,5 @@
 // A book: a lawful grammar with its arc board, and the numbers of its attributes.
-ghost use Rattle.std.specs.Prelude.{◌≡◌};
+ghost use Rattle.std.specs.Prelude.{◌≡◌, ◌≤◌, length};
 ghost use Rattle.grammar.specs.Arcs.{board_of};
 ghost use Rattle.grammar.specs.Books.{grammar_view};
 ghost use Rattle.grammar.specs.Lawful.{Lawful};
@@ -27,5 +27,6 @@ pub struct Book {
     pub directions: Directions,
     ghost lawful: { ∥ Lawful (grammar_view vocabulary productions) ∥₁ },
     ghost labelled: { arcs ≡ board_of (grammar_view vocabulary productions) },
+    ghost few: { length directions ≤ 128 },
     ghost numbered: { ∥ Numbered (grammar_view vocabulary productions) directions numbers passes unnumbered ∥₁ },
 }

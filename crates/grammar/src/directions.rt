@@ -8,7 +8,8 @@ use std::marker::Model;
 pub const MOST_PASSES: usize = 128;
 
 // In clauses it is the list of the directions, first to last. Numbering may not fail for want of memory, so
-// the memory is fixed.
+// the memory is fixed. A plan's letters and a listing's page are kept alike, each in a type of its own: an array of
+// a type parameter would owe at each call that it is small enough.
 #[derive(Drop)]
 pub struct Directions {
     passes: [Direction; MOST_PASSES],
@@ -36,7 +37,7 @@ impl Directions {
         }
     }
 
-    // Adds the direction of one pass more, if a plan may have it, and says whether.
+    // Adds the direction of one pass more, if a plan may have it, and says whether, as std's sets do.
     pub fn push(&mut self, direction: Direction) -> bool
         ensures room { IsTrue result ↔ (length self.old < 128) }
         ensures pushed { self.new ≡ (if result then self.old ++ direction ∷ [] else self.old) }

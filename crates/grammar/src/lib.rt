@@ -20,4 +20,4 @@ pub use production::{Occurrence, Production, Rule};
 pub use theorems::{
     given_precedes_nothing, labels_stand_for_relations, same_position_is_barred_both_ways,
 };
-pub use vocabulary::{Attribute, AttributeKind, Symbol, SymbolKind, UnknownKind, Vocabulary};
+pub use vocabulary::{Attribute, AttributeKind, Symbol, SymbolKind, Vocabulary};

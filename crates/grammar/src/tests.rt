@@ -1,6 +1,6 @@
 // Labels of arcs by their positions, first numbers by kind, and kinds by number.
-use super::{Attribute, AttributeKind, SymbolKind, UnknownKind, arc_label, unnumbered};
-use std::test::Fail;
+use super::{Attribute, AttributeKind, SymbolKind, arc_label, unnumbered};
+use refusal::Unlisted;
 
 #[test]
 fn labels_at_one_position(rt: HostRuntime) {
@@ -68,12 +68,9 @@ fn numbers_of_many(rt: HostRuntime) {
 }
 
 #[test]
-fn kinds_by_number(rt: HostRuntime) -> Result<(), Fail> {
+fn kinds_by_number(rt: HostRuntime) {
     assert_eq!(rt; SymbolKind::try_from(1), Ok(SymbolKind::Inner));
-    assert_eq!(rt; SymbolKind::try_from(3), Err(UnknownKind(3)));
+    assert_eq!(rt; SymbolKind::try_from(3), Err(Unlisted(3)));
     assert_eq!(rt; AttributeKind::try_from(3), Ok(AttributeKind::Given));
-    assert_eq!(rt; AttributeKind::try_from(0), Err(UnknownKind(0)));
-    let text = UnknownKind(0).to_string(rt.alloc())?;
-    assert_eq!(rt; text.as_str(), "no kind has number 0");
-    Ok(())
+    assert_eq!(rt; AttributeKind::try_from(0), Err(Unlisted(0)));
 }

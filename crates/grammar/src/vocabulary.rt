@@ -19,10 +19,6 @@ pub enum AttributeKind {
     Given = 3,
 }
 
-// A number that names no kind.
-#[derive(Clone, Copy, PartialEq, Eq, Debug)]
-pub struct UnknownKind(pub u16);
-
 // A symbol has `count` attributes, numbered in a row from `first` on, since attributes are numbered through all symbols.
 #[derive(Clone, Copy, PartialEq, Eq, Debug)]
 pub struct Symbol {

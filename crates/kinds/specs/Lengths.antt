@@ -1,7 +1,7 @@
 -- Lengths as values of attributes: operation 1 gives the constant, 2 adds, 3 takes the greater, 4 subtracts.
 use Rattle.std.specs.Prelude.{◌≡◌, ℕ, ◌<◌, Bool, cond, ◌&&◌, ◌⊎◌, ℤ, pos, negsuc, ◌+ℤ◌, ◌-ℤ◌, Some, None, Option, ◌==◌, int_le, nat_le, Result, MatchResult}
 use Rattle.std.specs.Int.{int_max}
-use Rattle.kinds.specs.declared.UnknownOperation.{UnknownOperation}
+use Rattle.refusal.specs.declared.Unlisted.{Unlisted}
 use Rattle.kinds.specs.declared.lengths.Operation.{Operation}
 use Rattle.kinds.specs.declared.lengths.Operation.TheVariants.{Constant, Add, Greater, Subtract}
 
@@ -13,7 +13,7 @@ length_operation Greater = 3
 length_operation Subtract = 4
 
 -- the operation with this number, or the number where no operation has it
-abbrev pub NamesLengthOperation : ℕ → Result Operation UnknownOperation → Type 0
+abbrev pub NamesLengthOperation : ℕ → Result Operation Unlisted → Type 0
 NamesLengthOperation n r = MatchResult r (λ operation. length_operation operation ≡ n) (λ e. (e.0 ≡ n) × ((n < 1) ⊎ (4 < n)))
 
 -- a rule may give its constant alone, or add, compare or subtract one or more arguments

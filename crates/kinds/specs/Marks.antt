@@ -1,6 +1,6 @@
 -- Marks as values of attributes, 0 to 255, of which 0 is no mark: operation 1 gives the constant, 2 keeps the latest mark, 3 wants agreement.
 use Rattle.std.specs.Prelude.{◌≡◌, ℕ, ◌<◌, Bool, cond, ◌&&◌, ◌||◌, ◌⊎◌, Some, None, Option, ◌==◌, nat_le, Result, MatchResult}
-use Rattle.kinds.specs.declared.UnknownOperation.{UnknownOperation}
+use Rattle.refusal.specs.declared.Unlisted.{Unlisted}
 use Rattle.kinds.specs.declared.marks.Operation.{Operation}
 use Rattle.kinds.specs.declared.marks.Operation.TheVariants.{Constant, Latest, Agreement}
 
@@ -11,7 +11,7 @@ mark_operation Latest = 2
 mark_operation Agreement = 3
 
 -- the operation with this number, or the number where no operation has it
-abbrev pub NamesMarkOperation : ℕ → Result Operation UnknownOperation → Type 0
+abbrev pub NamesMarkOperation : ℕ → Result Operation Unlisted → Type 0
 NamesMarkOperation n r = MatchResult r (λ operation. mark_operation operation ≡ n) (λ e. (e.0 ≡ n) × ((n < 1) ⊎ (3 < n)))
 
 -- a rule may give its constant alone, or join one or more arguments to it; the constant is a mark

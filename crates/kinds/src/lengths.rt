@@ -3,8 +3,8 @@ ghost use Rattle.std.specs.Prelude.{◌≡◌};
 ghost use Rattle.kinds.specs.Lengths.{length_admitted, length_operation, length_starts, length_steps, within, NamesLengthOperation};
 ghost use Rattle.std.proofs.Common.{rules};
 
-use super::{UnknownOperation, ValueKind};
-use refusal::{Refusal, Site};
+use super::ValueKind;
+use refusal::{Refusal, Site, Unlisted};
 
 pub struct Lengths;
 
@@ -20,17 +20,17 @@ pub enum Operation {
 const LIMIT: i64 = 1_000_000_000;
 
 impl TryFrom<u16> for Operation {
-    type Error = UnknownOperation;
+    type Error = Unlisted;
 
     ghost try_from_gives = { NamesLengthOperation };
 
-    fn try_from(number: u16) -> Result<Operation, UnknownOperation> {
+    fn try_from(number: u16) -> Result<Operation, Unlisted> {
         match number {
             1 => Ok(Operation::Constant),
             2 => Ok(Operation::Add),
             3 => Ok(Operation::Greater),
             4 => Ok(Operation::Subtract),
-            _ => Err(UnknownOperation(number)),
+            _ => Err(Unlisted(number)),
         }
     }
 }

@@ -1,12 +1,10 @@
 // Value kinds: what the values of attributes are, and what a rule's operation makes of them.
 #![tactic(auto)]
 
-ghost use Rattle.std.specs.Prelude.{◌≡◌, ◌++◌, ℕ, Bool, false, Some, None, Option, codes, decimal};
+ghost use Rattle.std.specs.Prelude.{◌≡◌, ℕ, Bool, false, None, Option};
 ghost use Rattle.std.specs.Option.{ok_or};
 
 use refusal::{Refusal, Site};
-use std::error::Error;
-use std::fmt;
 
 pub mod lengths;
 pub mod marks;
@@ -14,7 +12,8 @@ pub mod marks;
 mod tests;
 
 // A rule's value starts from its constant and takes in one argument after another. The words of a rule are taken
-// one by one, as the meaning has them. No method has a body here: a shared one would ask more members of a kind.
+// one by one, as the meaning has them, and an operation by its number, since any may stand in a table. No method has
+// a body here: a shared one would ask more members of a kind.
 pub trait ValueKind {
     type Value: Copy;
 
@@ -50,17 +49,3 @@ pub trait ValueKind {
 
     ghost unadmitted: { (k : Self) (operation constant count : ℕ) → admitted k operation constant count ≡ false → starts k operation constant count ≡ None };
 }
-
-// A number that no operation of a kind has.
-#[derive(Clone, Copy, PartialEq, Eq, Debug)]
-pub struct UnknownOperation(pub u16);
-
-impl fmt::Display for UnknownOperation {
-    ghost output = { λ e. Some (codes "no operation has number " ++ decimal e.0) };
-
-    fn fmt<W: fmt::Write>(&self, f: &mut fmt::Formatter<W>) -> fmt::Result {
-        write!(f, "no operation has number {}", self.0)
-    }
-}
-
-impl Error for UnknownOperation {}

@@ -3,8 +3,8 @@ ghost use Rattle.std.specs.Prelude.{◌≡◌};
 ghost use Rattle.kinds.specs.Marks.{agreed, mark_admitted, mark_operation, mark_starts, mark_steps, NamesMarkOperation};
 ghost use Rattle.std.proofs.Common.{rules};
 
-use super::{UnknownOperation, ValueKind};
-use refusal::{Refusal, Site};
+use super::ValueKind;
+use refusal::{Refusal, Site, Unlisted};
 
 pub struct Marks;
 
@@ -19,16 +19,16 @@ pub enum Operation {
 const GREATEST: u16 = 255;
 
 impl TryFrom<u16> for Operation {
-    type Error = UnknownOperation;
+    type Error = Unlisted;
 
     ghost try_from_gives = { NamesMarkOperation };
 
-    fn try_from(number: u16) -> Result<Operation, UnknownOperation> {
+    fn try_from(number: u16) -> Result<Operation, Unlisted> {
         match number {
             1 => Ok(Operation::Constant),
             2 => Ok(Operation::Latest),
             3 => Ok(Operation::Agreement),
-            _ => Err(UnknownOperation(number)),
+            _ => Err(Unlisted(number)),
         }
     }
 }

@@ -1,8 +1,8 @@
 // Both kinds at their edges.
 use super::lengths::Lengths;
 use super::marks::Marks;
-use super::{UnknownOperation, ValueKind, lengths, marks};
-use refusal::{Refusal, Site};
+use super::{ValueKind, lengths, marks};
+use refusal::{Refusal, Site, Unlisted};
 use std::test::Fail;
 
 const SITE: Site = Site {
@@ -141,12 +141,10 @@ fn operations(rt: HostRuntime) -> Result<(), Fail> {
         lengths::Operation::try_from(4)?,
         lengths::Operation::Subtract
     );
-    assert_eq!(rt; lengths::Operation::try_from(0), Err(UnknownOperation(0)));
-    assert_eq!(rt; lengths::Operation::try_from(5), Err(UnknownOperation(5)));
+    assert_eq!(rt; lengths::Operation::try_from(0), Err(Unlisted(0)));
+    assert_eq!(rt; lengths::Operation::try_from(5), Err(Unlisted(5)));
     assert_eq!(rt; marks::Operation::try_from(3)?, marks::Operation::Agreement);
-    assert_eq!(rt; marks::Operation::try_from(0), Err(UnknownOperation(0)));
-    assert_eq!(rt; marks::Operation::try_from(4), Err(UnknownOperation(4)));
-    let text = UnknownOperation(5).to_string(rt.alloc())?;
-    assert_eq!(rt; text.as_str(), "no operation has number 5");
+    assert_eq!(rt; marks::Operation::try_from(0), Err(Unlisted(0)));
+    assert_eq!(rt; marks::Operation::try_from(4), Err(Unlisted(4)));
     Ok(())
 }

@@ -35,6 +35,7 @@ fn book_page(book: &Book) -> Page
     page
 }
 
+// How much room is wanted differs from call to call, so each function says its own.
 fn write_attribute(page: &mut Page, attribute: usize, symbol: u16, number: u8)
     requires { (attribute ≤ 64) × (length page.old + 13 ≤ 843) }
     ensures written { page.new ≡ page.old ++ attribute_line attribute symbol number }

@@ -25,7 +25,7 @@ impl Occurring {
     pub(crate) fn slot(self) -> usize
         ensures { result ≡ slot self.occurrence }
     {
-        MOST_ATTRIBUTES * usize::from(self.occurrence.position) + self.column()
+        self.occurrence.slot().unwrap()
     }
 
     // The place of the attribute among all attributes.

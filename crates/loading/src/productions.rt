@@ -61,8 +61,9 @@ fn read_right_side(
     Ok(right)
 }
 
-// The productions of the chain that begins at `first`. The first fault stops all reading: it leaves the three
-// loops by one labelled break, so what is a `?` elsewhere is a match here.
+// The productions of the chain that begins at `first`. The first fault stops all reading: one function, which it
+// leaves by a labelled break out of three loops, so what is a `?` elsewhere is a match here (docs/DECISIONS.md). The
+// bound on attributes is what reading the vocabulary ensures.
 pub(crate) fn read_productions<K: ValueKind>(
     heap: Global,
     table: &Table,

@@ -107,10 +107,8 @@ impl Sides<'_> {
     fn is_settled(&self, rules: &Rules, occurrence: Occurrence) -> bool
         ensures { result ≡ (not (has self.now occurrence && defined (vocabulary_of self.now) occurrence) || has_rule (targets_of rules.now) occurrence) }
     {
-        match self.occurring(occurrence) {
-            Some(named) => !named.is_defined() || rules.have(named),
-            None => true,
-        }
+        self.occurring(occurrence)
+            .is_none_or(|named| !named.is_defined() || rules.have(named))
     }
 
     // Whether each defined occurrence at the position has a rule.

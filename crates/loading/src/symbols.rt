@@ -33,7 +33,7 @@ impl Owner {
     }
 }
 
-// Adds the attributes of the symbol at the record `at`.
+// Adds the attributes of the symbol at the record `at`. The bound is what reading symbol by symbol keeps.
 fn read_attributes(
     table: &Table,
     reached: &mut Reached,

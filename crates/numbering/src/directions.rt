@@ -7,7 +7,8 @@ use plans::Plan;
 // The number of the first pass.
 pub(crate) const FIRST_PASS: u8 = 1;
 
-// The direction of each pass of the plan, which is asked pass by pass.
+// The direction of each pass of the plan, which is asked pass by pass: a chain would have to say again, on its
+// closure, what the plan answers.
 pub(crate) fn directions_of<P: Plan>(plan: &P) -> Directions
     ensures { result ≡ P.Plan.directions plan.now }
 {

@@ -4,7 +4,7 @@ use Rattle.refusal.specs.declared.Refusal.{Refusal}
 use Rattle.refusal.specs.declared.Refusal.TheVariants.{BadPlan}
 use Rattle.plans.specs.declared.Direction.{Direction}
 use Rattle.plans.specs.declared.Direction.TheVariants.{Left, Right}
-use Rattle.plans.specs.declared.NoDirection.{NoDirection}
+use Rattle.refusal.specs.declared.Unlisted.{Unlisted}
 
 -- the direction of a pass, of which the first is 1; there is none at 0 and past the last pass
 unfoldable pub direction_at : List Direction → ℕ → Option Direction
@@ -44,7 +44,7 @@ abbrev pub letter_direction : ℕ → Direction
 letter_direction byte = cond (byte == 76) Left Right
 
 -- the direction of a byte, or the byte where it is no letter
-abbrev pub byte_direction : ℕ → Result Direction NoDirection
+abbrev pub byte_direction : ℕ → Result Direction Unlisted
 byte_direction byte = cond (letter byte) (Ok (letter_direction byte)) (Err (record { 0 = byte }))
 
 -- the directions that letters stand for, one for each pass

@@ -4,7 +4,7 @@ ghost use Rattle.std.specs.Result.{result_map_both};
 ghost use Rattle.plans.specs.Plans.{alternating, alternating_plan, in_turn};
 ghost use Rattle.std.proofs.Common.{rules, arith};
 
-use super::{Direction, LONGEST, Plan};
+use super::{Direction, Plan, passes_of};
 use refusal::Refusal;
 
 #[derive(Clone, Copy)]
@@ -19,13 +19,8 @@ impl Alternating {
     pub fn new(first: Direction, length: u16) -> Result<Alternating, Refusal>
         ensures { result_map_both (λ p. alternating p.first p.count) (λ e. e) result ≡ alternating_plan first length }
     {
-        if length == 0 || length as usize > LONGEST {
-            return Err(Refusal::BadPlan { place: 0 });
-        }
-        Ok(Alternating {
-            first,
-            count: length as u8,
-        })
+        let count = passes_of(usize::from(length))?;
+        Ok(Alternating { first, count })
     }
 }
 

@@ -1,12 +1,12 @@
 // Plans: in which direction each pass walks the derivation tree.
 #![tactic(auto)]
 
-ghost use Rattle.std.specs.Prelude.{◌≡◌, ◌≤◌, ◌++◌, List, length, Some, codes, decimal};
-ghost use Rattle.plans.specs.Plans.{byte_direction, direction_at, opposite};
+ghost use Rattle.std.specs.Prelude.{◌≡◌, ◌≤◌, List, length, if◌then◌else◌, Ok, Err};
+ghost use Rattle.plans.specs.Plans.{byte_direction, direction_at, opposite, plan_length};
+ghost use Rattle.refusal.specs.declared.Refusal.TheVariants.{BadPlan};
 ghost use Rattle.plans.specs.declared.Direction.{Direction};
 
-use std::error::Error;
-use std::fmt;
+use refusal::{Refusal, Unlisted};
 
 pub mod alternating;
 #[cfg(test)]
@@ -34,37 +34,33 @@ impl Direction {
     }
 }
 
-// A byte that is the letter of no direction.
-#[derive(Clone, Copy, PartialEq, Eq, Debug)]
-pub struct NoDirection(pub u8);
-
 const LEFT: u8 = b'L';
 
 const RIGHT: u8 = b'R';
 
 impl TryFrom<u8> for Direction {
-    type Error = NoDirection;
+    type Error = Unlisted;
 
     ghost try_from_gives = { λ byte r. r ≡ byte_direction byte };
 
-    fn try_from(byte: u8) -> Result<Direction, NoDirection> {
+    fn try_from(byte: u8) -> Result<Direction, Unlisted> {
         match byte {
             LEFT => Ok(Direction::Left),
             RIGHT => Ok(Direction::Right),
-            _ => Err(NoDirection(byte)),
+            _ => Err(Unlisted(u16::from(byte))),
         }
     }
 }
 
-impl fmt::Display for NoDirection {
-    ghost output = { λ e. Some (codes "no direction has letter " ++ decimal e.0) };
-
-    fn fmt<W: fmt::Write>(&self, f: &mut fmt::Formatter<W>) -> fmt::Result {
-        write!(f, "no direction has letter {}", self.0)
+// The number of passes, if a plan may have so many.
+fn passes_of(length: usize) -> Result<u8, Refusal>
+    ensures { result ≡ (if plan_length length then Ok length else Err (BadPlan 0)) }
+{
+    if length == 0 || length > LONGEST {
+        return Err(Refusal::BadPlan { place: 0 });
     }
+    Ok(length as u8)
 }
-
-impl Error for NoDirection {}
 
 pub trait Plan {
     // The directions of the passes, first to last.

@@ -4,7 +4,7 @@ ghost use Rattle.std.specs.Result.{result_map_both};
 ghost use Rattle.plans.specs.Plans.{first_wrong, written, written_plan};
 ghost use Rattle.std.proofs.Common.{rules, arith};
 
-use super::{Direction, LONGEST, Plan};
+use super::{Direction, LONGEST, Plan, passes_of};
 use refusal::Refusal;
 
 // The first letters are the plan; the rest is unused. An array with a count, so that a plan is copied without a heap.
@@ -22,9 +22,7 @@ impl Written {
     pub fn new(bytes: &[u8]) -> Result<Written, Refusal>
         ensures { result_map_both (λ p. written (take p.count p.letters)) (λ e. e) result ≡ written_plan bytes.now }
     {
-        if bytes.is_empty() || bytes.len() > LONGEST {
-            return Err(Refusal::BadPlan { place: 0 });
-        }
+        let count = passes_of(bytes.len())?;
         if let Some(place) = first_wrong(bytes) {
             return Err(Refusal::BadPlan {
                 place: place as u16,
@@ -32,7 +30,7 @@ impl Written {
         }
         Ok(Written {
             letters: copied(bytes),
-            count: bytes.len() as u8,
+            count,
         })
     }
 }

@@ -1,7 +1,7 @@
 // Why a call is refused: the one fault type of all calls.
 #![tactic(auto)]
 
-ghost use Rattle.std.specs.Prelude.{◌≡◌, Some};
+ghost use Rattle.std.specs.Prelude.{◌≡◌, ◌++◌, Some, codes, decimal};
 ghost use Rattle.refusal.specs.Numbers.{number, place};
 ghost use Rattle.refusal.specs.Texts.{place_text, refusal_text};
 ghost use Rattle.refusal.specs.declared.Refusal.TheVariants.{OutOfMemory};
@@ -173,6 +173,20 @@ impl fmt::Display for Refusal {
 }
 
 impl Error for Refusal {}
+
+// A number, or a letter by its code, that names nothing of what it should.
+#[derive(Clone, Copy, PartialEq, Eq, Debug)]
+pub struct Unlisted(pub u16);
+
+impl fmt::Display for Unlisted {
+    ghost output = { λ e. Some (codes "nothing is listed under " ++ decimal e.0) };
+
+    fn fmt<W: fmt::Write>(&self, f: &mut fmt::Formatter<W>) -> fmt::Result {
+        write!(f, "nothing is listed under {}", self.0)
+    }
+}
+
+impl Error for Unlisted {}
 
 // Two impls, since std has two errors for want of memory and `?` takes either.
 impl From<AllocError> for Refusal {

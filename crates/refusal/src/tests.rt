@@ -1,5 +1,5 @@
 // The printed text of refusals.
-use super::{Place, Refusal, Site};
+use super::{Place, Refusal, Site, Unlisted};
 use std::test::Fail;
 
 #[test]
@@ -28,5 +28,12 @@ fn refusals(rt: HostRuntime) -> Result<(), Fail> {
         at_instance.as_str(),
         "refused 23 at attribute 12 of node 307"
     );
+    Ok(())
+}
+
+#[test]
+fn unlisted(rt: HostRuntime) -> Result<(), Fail> {
+    let text = Unlisted(108).to_string(rt.alloc())?;
+    assert_eq!(rt; text.as_str(), "nothing is listed under 108");
     Ok(())
 }

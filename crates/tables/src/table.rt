@@ -9,7 +9,8 @@ pub const MOST_RECORDS: usize = 4096;
 
 const RECORD_BYTES: usize = 12;
 
-// Which records were reached. Not in the table: what changes it would have to say that the bytes stay.
+// Which records were reached: a fixed array, as there are never more. Not a part of the table, which loading
+// only reads: in one `&mut` value each of its loops would have to carry that the bytes stay.
 pub type Reached = [bool; MOST_RECORDS];
 
 // The bytes of 1 to 4096 records, none of them cut off.
@@ -74,6 +75,7 @@ impl<'a> Table<'a> {
         ensures left { IfOk result (λ o. free reached.new + one o ≡ free reached.old) }
     {
         let Link { holder, index } = link;
+        // 0 ends a chain, as tables have it.
         if index == 0 {
             return Ok(None);
         }

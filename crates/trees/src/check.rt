@@ -30,7 +30,7 @@ pub fn check_tree(book: &Book, nodes: &[Node]) -> Result<(), Refusal>
     row.check_reached()
 }
 
-// A row of nodes, and which of them were reached; there is a place for each.
+// A row of nodes, and which of them were reached; there is a place for each, in a fixed array, as a check has no heap.
 #[derive(Drop)]
 struct Row<'a> {
     nodes: &'a [Node],
@@ -53,6 +53,7 @@ impl Row<'_> {
         if node.symbol != symbol || !fitting::fits(book, symbol, node.production) {
             return Err(Refusal::BadNode { node: n });
         }
+        // 0 ends a chain, as rows of nodes have it.
         let mut holder = n;
         let mut index = node.first_child;
         let right = fitting::right_side(book, node.production);
@@ -72,8 +73,8 @@ impl Row<'_> {
         }
     }
 
-    // Reaches the child that an index of the holder names. Tables follow their links alike, but neither crate stands
-    // on the other, and a type for the two would need a third.
+    // Reaches the child that an index of the holder names. Tables mark what they reach in the same two lines, which
+    // are too few for a function of both.
     fn reach(&mut self, holder: u16, index: u16) -> Result<(), Refusal>
         ensures nodes { self.new.nodes ≡ self.old.nodes }
         ensures reached { outcome result self.new.reached ≡ reaching self.old.nodes.now holder index self.old.reached }

@@ -163,14 +163,12 @@ fn plan_of(letters: &str) -> Result<Option<Written>, Unreadable> {
 
 fn table_of(heap: Global, text: &str) -> Result<Vec<u8>, Unreadable> {
     let mut table = Vec::new(heap);
-    for text in text.split(';') {
-        let (times, record) = repeated(text.trim())?;
-        for _ in 0..times {
-            for number in record.numbers(table.len() / RECORD_BYTES + 1) {
-                table.extend_from_slice(&number.to_le_bytes())?;
-            }
+    each_record(text, |record| {
+        for number in record.numbers(table.len() / RECORD_BYTES + 1) {
+            table.extend_from_slice(&number.to_le_bytes())?;
         }
-    }
+        Ok(())
+    })?;
     Ok(table)
 }
 
@@ -179,21 +177,33 @@ fn nodes_of(heap: Global, text: &str) -> Result<Vec<Node>, Unreadable> {
     if text.trim().is_empty() {
         return Ok(nodes);
     }
+    each_record(text, |record| {
+        let [symbol, production, first_child, next_brother, _, _] = record.numbers(nodes.len() + 1);
+        nodes.push(Node {
+            symbol,
+            production,
+            first_child,
+            next_brother,
+        })?;
+        Ok(())
+    })?;
+    Ok(nodes)
+}
+
+// Hands on the records of a text, each as often as it stands there.
+fn each_record<F: FnMut(Record) -> Result<(), Unreadable>>(
+    text: &str,
+    mut add: F,
+) -> Result<(), Unreadable>
+    requires { F.IsAlwaysCallable add }
+{
     for text in text.split(';') {
         let (times, record) = repeated(text.trim())?;
         for _ in 0..times {
-            let [symbol, production, first_child, next_brother, _, _] = record.numbers(
-                nodes.len() + 1,
-            );
-            nodes.push(Node {
-                symbol,
-                production,
-                first_child,
-                next_brother,
-            })?;
+            add(record)?;
         }
     }
-    Ok(nodes)
+    Ok(())
 }
 
 // A record, and how often it stands there.

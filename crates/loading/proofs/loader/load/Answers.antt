@@ -50,6 +50,7 @@ invariant_of-result g c =
     record {
       lawful = ∣ lawful ∣₁;
       labelled = c.in_ok-productions.ensures.board;
+      few = omega (arith, ap length c.new-directions.ensures);
       numbered = ∣ subst (λ ds. Numbered (grammar_view c.in_ok-vocabulary.vocabulary c.in_ok-productions.productions) ds c.unnumbered-numbers.result 0 c.wanting-wanted.result) (sym c.new-directions.ensures) fresh ∣₁;
     }
 

@@ -23,6 +23,7 @@ invariant_of-book g c =
     record {
       lawful = book.lawful;
       labelled = book.labelled;
+      few = omega (arith, ap length c.directions_of-directions.ensures, (g.met.P.Plan.bounded c.args.plan.now).1);
       numbered = ∣ subst (λ ds. Numbered (grammar_of book) ds c.number_places-outcome.new.numbers c.number_places-outcome.result.passes c.number_places-outcome.result.unnumbered) c.as_slice.ensures numbered ∣₁;
     }
 
