@@ -11,8 +11,8 @@ import sys
 PATTERNS = {
     "1.1 functions whose number says nothing": r"^\s*pub fn [a-z_]+(<V>)?\(\) -> u8$",
     "1.2 numbers that stand for kinds, letters or none": r"const (?!MOST|LONGEST|LAST|LIMIT|GREATEST\b)[A-Z_]+: u(8|16) = (\d|b'|0x)",
-    "1.3 numbers decoded to kinds": r"^\s+(\d+|\(SymbolKind::\w+, \d\)( if .*)?) => (Some|Ok)\(",
-    "1.4 options and results built again by hand": r"^\s+(Some|Ok|Err)\(\w+\) => ((None|Some|Ok|Err)\b|break '\w+ Some)",
+    "1.3 numbers decoded to kinds": r"^\s+([1-9]|\(SymbolKind::\w+, \d\)( if .*)?) => (Some|Ok)\(\w+::",
+    "1.4 options and results built again by hand": r"^\s+(Some|Ok|Err)\(\w+\) => ((None|Some|Ok|Err)\b|break '\w+ Some)|^\s+if let Err\(fault\) = ",
     "1.5 flags that a value follows": r"if !is_sized\(",
     "1.6 zero for none": r"(?<![.\w])(number|n|word|index|production|position|attribute|pass|\S*slots\S*) (==|!=) 0\b",
     "3.1 loops over a range": r"\bfor \w+ in \w+\.\.",
@@ -20,7 +20,7 @@ PATTERNS = {
     "3.3 chains followed by a holder and an index": r"\.follow\(\w+, \w*holder, \w*index\)",
     "4.1 tests, conversions and printing as functions": r"\bfn (is_(given|letter|defined|inner|inside|sized)|opposite|direction_of|symbol_kind|attribute_kind|word_at|record_at|slot_of|place_number|last_digit|show_\w+|number|place|value)\(",
     "4.2 impls of conversions and printing": r"^impl.* (From<.*>|fmt::Display) for ",
-    "6.2 arrays of a fixed length as fields and types": r"^\s*(pub(\(crate\))? )?(type \w+ = |\w+: )\[[^\]]+; [A-Z_]+\][;,]$",
+    "6.2 arrays of a fixed length as fields and types": r"^\s*(pub(\(crate\))? )?(type \w+ = |\w+: )\[[a-zA-Z]\w*; [A-Z_]+\][;,]$",
     "6.3 nodes and rules named by index": r"^\s+(pub )?(first_child|next_brother|next|slots|first): \S.*,$",
     "7.1 matches that choose a step": r"\bmatch (operation|direction|case\.kind|kind) \{",
 }
@@ -50,7 +50,7 @@ def facts(text):
 def counted_arrays(text):
     """Structs that have a fixed array and a count of how much of it is used."""
     for found in re.finditer(r"struct (\w+)[^{;]*\{(.*?)\n\}", text, re.S):
-        if re.search(r": \[[^\]]+; [A-Z_]+\],", found.group(2)) and re.search(r"\b(count|length|planned|len): u", found.group(2)):
+        if re.search(r": \[[^\]]+; [A-Z_]+\],", found.group(2)) and re.search(r"\b(count|length|planned|len|written): u", found.group(2)):
             yield found.group(1)
 
 

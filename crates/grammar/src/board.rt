@@ -11,6 +11,7 @@ pub const BOARD_PLACES: usize = 4096;
 // attributes may be in several of these relations at once; a fixed array, as there are always so many places.
 pub type Board = [u8; BOARD_PLACES];
 
+// A bit of the label, as are the bars.
 pub const PRECEDES: u8 = 1;
 
 // The bit of a bar for passes in the direction.

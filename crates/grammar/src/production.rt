@@ -14,7 +14,8 @@ pub struct Occurrence {
     pub attribute: u16,
 }
 
-// What sets an occurrence: an operation on a constant and on other occurrences.
+// What sets an occurrence: an operation on a constant and on other occurrences. The operation is a number, since a
+// book may be run over another value kind than it was loaded for.
 #[derive(Drop)]
 pub struct Rule {
     pub target: Occurrence,

@@ -1,4 +1,4 @@
-// Marks: small numbers, of which 0 says that there is no mark.
+// Marks: small numbers, of which 0 says that there is no mark; a mark is a byte by its meaning, and no Option.
 ghost use Rattle.std.specs.Prelude.{◌≡◌};
 ghost use Rattle.kinds.specs.Marks.{agreed, mark_admitted, mark_operation, mark_starts, mark_steps, NamesMarkOperation};
 ghost use Rattle.std.proofs.Common.{rules};
@@ -34,6 +34,7 @@ impl TryFrom<u16> for Operation {
 }
 
 impl Operation {
+    // The value so far and one argument, as the meaning takes them.
     fn combined(self, so_far: u8, argument: u8) -> Option<u8>
         ensures { result ≡ mark_steps (mark_operation self) so_far argument }
     {

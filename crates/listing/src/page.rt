@@ -60,6 +60,7 @@ impl Page {
     }
 }
 
+// A digit, for `number`.
 fn last_digit(n: usize) -> u8
     ensures { result ≡ 48 + n % 10 }
 {

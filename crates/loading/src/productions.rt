@@ -62,8 +62,8 @@ fn read_right_side(
 }
 
 // The productions of the chain that begins at `first`. The first fault stops all reading: one function, which it
-// leaves by a labelled break out of three loops, so what is a `?` elsewhere is a match here (docs/DECISIONS.md). The
-// bound on attributes is what reading the vocabulary ensures.
+// leaves by a labelled break out of three loops (docs/DECISIONS.md), so what is a `?` elsewhere is a match or an
+// `if let` here. The bound on attributes is what reading the vocabulary ensures.
 pub(crate) fn read_productions<K: ValueKind>(
     heap: Global,
     table: &Table,

@@ -12,7 +12,8 @@ use refusal::Refusal;
 use std::alloc::Global;
 use tables::Record;
 
-// A production's rules so far, and the slots that they fill in it.
+// A production's rules so far, and the slots that they fill in it; 0 is an empty one, as in the production that takes
+// them over.
 #[derive(Drop)]
 pub(crate) struct Rules {
     pub rules: Vec<Rule>,

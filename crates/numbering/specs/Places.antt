@@ -12,7 +12,8 @@ use Rattle.numbering.specs.Graph.{Graph, LeastOn}
 unfoldable pub marked : List ℕ → ℕ → ℕ → ℕ → Bool
 marked board bit p q = not (bit_and (slice_index board (64 * p + q)) bit == 0)
 
--- whether the attribute at a place wants a number: one that is not given
+-- whether the attribute at a place wants a number: one that is not given. It says what `wanting_at` of grammar says, and
+-- does not unfold, which keeps proofs on places short.
 unfoldable pub wants_at : List Attribute → ℕ → Bool
 wants_at attributes p = nat_lt p (length attributes) && not (given (slice_index_or attributes p no_attribute).kind)
 

@@ -15,7 +15,7 @@ pub(crate) fn columns_of(arcs: &Board, bit: u8) -> Columns
     ensures { (p q : ℕ) → p < 64 → q < 64 → holds result p q ≡ marked arcs.now bit p q }
 {
     let mut sets = [Places::default(); MOST_ATTRIBUTES];
-    // No `from_fn`, whose closure would have to repeat the clauses of `column`.
+    // No `from_fn`: its closure would have to say again what `column` requires and ensures.
     for (place, set) in sets.iter_mut().enumerate() {
         *set = column(arcs, bit, place);
     }

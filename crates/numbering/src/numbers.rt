@@ -15,7 +15,7 @@ use plans::{Direction, Plan};
 
 #[derive(Clone, Copy)]
 pub struct Outcome {
-    // The greatest number that an attribute has, or 0.
+    // The greatest number that an attribute has, or 0, which is printed as it stands.
     pub passes: u8,
     // The attributes that have no number, with place a - 1 for attribute a.
     pub unnumbered: Places,

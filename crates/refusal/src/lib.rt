@@ -82,7 +82,8 @@ pub enum Refusal {
 }
 
 impl Refusal {
-    // The number of the refusal; 0 for want of memory. A method and no `From`: its name says which number it is.
+    // The number of the refusal; 0 for want of memory, which is outside the list and is printed like the rest. A method
+    // and no `From`: its name says which number it is.
     pub fn number(self) -> u8
         ensures { result ≡ number self }
     {

@@ -53,7 +53,7 @@ impl Row<'_> {
         if node.symbol != symbol || !fitting::fits(book, symbol, node.production) {
             return Err(Refusal::BadNode { node: n });
         }
-        // 0 ends a chain, as rows of nodes have it.
+        // 0 ends a chain, as rows of nodes have it. Its holder and index stand in this loop alone.
         let mut holder = n;
         let mut index = node.first_child;
         let right = fitting::right_side(book, node.production);
@@ -73,8 +73,8 @@ impl Row<'_> {
         }
     }
 
-    // Reaches the child that an index of the holder names. Tables mark what they reach in the same two lines, which
-    // are too few for a function of both.
+    // Reaches the child that an index of the holder names. Tables test and mark what they reach likewise, with a bound and a
+    // refusal of their own; what is left is too little for a function of both.
     fn reach(&mut self, holder: u16, index: u16) -> Result<(), Refusal>
         ensures nodes { self.new.nodes ≡ self.old.nodes }
         ensures reached { outcome result self.new.reached ≡ reaching self.old.nodes.now holder index self.old.reached }
@@ -87,7 +87,7 @@ impl Row<'_> {
         Ok(())
     }
 
-    // Whether every node was reached; else the first that was not is a fault.
+    // Whether every node was reached; else the first that was not is a fault. A match, as what is found is the error.
     fn check_reached(&self) -> Result<(), Refusal>
         ensures { result ≡ all_reached 0 (length self.now.nodes.now) self.now.reached }
     {

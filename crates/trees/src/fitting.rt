@@ -1,5 +1,5 @@
 // What may stand at a node, by the book's grammar. A terminal has production 0, as rows of nodes have it.
-// A book is passed beside what is looked up in it.
+// A book and a number are passed side by side: no value holds both.
 ghost use Rattle.std.specs.Prelude.{◌≡◌};
 ghost use Rattle.trees.specs.Checking.{fits, is_production, children_symbols};
 ghost use Rattle.grammar.specs.OfBook.{grammar_of};

@@ -161,6 +161,7 @@ fn plan_of(letters: &str) -> Result<Option<Written>, Unreadable> {
         .map_err(|_| Unreadable::Plan)
 }
 
+// The allocator is passed beside the text of which a part is kept.
 fn table_of(heap: Global, text: &str) -> Result<Vec<u8>, Unreadable> {
     let mut table = Vec::new(heap);
     each_record(text, |record| {

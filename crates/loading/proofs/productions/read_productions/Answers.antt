@@ -18,23 +18,6 @@ rules-init g c =
       record { gives = rw (c.new-rules.ensures.len, c.new-rules.ensures.items, c.link-rule_link.ensures) refl },
     )
 
-pub arguments-init : goal.arguments-init
-arguments-init g c = (
-  omega (arith, c.new-arguments.ensures.len),
-  omega (arith, c.in-Ok-follow.ensures.left, ap one c.in-Some-found.is, c.rules.invariant.0),
-  rw c.new-arguments.ensures.items refl,
-  record { gives = rw (c.new-arguments.ensures.len, c.new-arguments.ensures.items, c.link-argument_link.ensures) refl },
-)
-
-pub add-requires-clause-few : goal.add-requires-clause-few
-add-requires-clause-few g c = room_left _ _ _ _ c.in-Ok-follow.ensures.left (ap one c.in-Some-found.is) c.rules.invariant.0
-
-pub add-requires-clause-target : goal.add-requires-clause-target
-add-requires-clause-target g c = c.in-Ok-target.ensures.1
-
-pub add-requires-clause-first : goal.add-requires-clause-first
-add-requires-clause-first g c = c.in-Ok-target.ensures.2
-
 pub arguments-preserved : goal.arguments-preserved
 arguments-preserved g c =
     let v = vocabulary_view c.args.vocabulary.now in

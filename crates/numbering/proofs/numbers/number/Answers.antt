@@ -1,19 +1,9 @@
 -- What the passes leave is the book's numbering.
-use Rattle.std.proofs.Common.{◌≤◌, length, vec_items, sym, ap, ◌∙◌, subst, arith}
-use mathlib.Core.Logic.{∥∥₁_elim}
-use native.Mathlib.Bridge.{le_prop}
+use Rattle.std.proofs.Common.{length, ap, ◌∙◌, subst, arith}
 use Rattle.grammar.specs.Numberings.{number_of, Least, Numbered}
 use Rattle.grammar.specs.OfBook.{grammar_of}
 use Rattle.numbering.proofs.BookNumbers.{book_least, book_numbered}
 use Rattle.numbering.proofs.numbers.number.Goals as goal
-
-pub number_places-outcome-requires : goal.number_places-outcome-requires
-number_places-outcome-requires g c =
-    let few : length (vec_items c.args.book.now.vocabulary.attributes) ≤ 64 = ∥∥₁_elim c.args.book.now.lawful le_prop (λ l. l.vocabulary.few_attributes) in
-    record {
-      attributes = subst (λ xs. length xs ≤ 64) (sym c.deref.ensures.value) few;
-      directions = omega (arith, ap length (c.as_slice.ensures ∙ c.directions_of-directions.ensures), (g.met.P.Plan.bounded c.args.plan.now).1);
-    }
 
 pub invariant_of-book : goal.invariant_of-book
 invariant_of-book g c =
