@@ -1,13 +1,13 @@
 -- What `has` says of the word operations.
-use Rattle.std.proofs.Common.{◌≡◌, ℕ, zero, suc, ◌+◌, ◌-◌, ◌*◌, ◌/◌, ◌%◌, ◌^◌, ◌<◌, ◌≤◌, min, max, Bool, true, false, cond, not, ◌&&◌, ◌||◌, eqb, ltb, sym, refl, ap, ◌∙◌, ap₂, inl, inr, pow-suc, w64, MatchBool, arith}
+use Rattle.std.proofs.Common.{◌≡◌, ℕ, zero, suc, ◌+◌, ◌-◌, ◌*◌, ◌/◌, ◌%◌, ◌^◌, ◌<◌, ◌≤◌, min, max, Bool, true, false, cond, not, ◌&&◌, ◌||◌, eqb, ltb, ◌⊎◌, sym, refl, ap, ◌∙◌, ap₂, inl, inr, pow-suc, MatchBool, arith}
 use mathlib.Core.Path.{fun_ext}
 use mathlib.Core.Bool.{and-true}
 use lib.Arith.{lt-one}
 use lib.Bits.{bit_and, bit_or, and_lt, and_mask}
-use lib.Count.{ones, ones_step, count_trailing_zeros}
+use lib.Count.{ones, ones_step, count_trailing_zeros, under}
 use Rattle.std.specs.Int.{bit_at}
-use Rattle.std.proofs.lemmas.Nat.Bits.{bit_at_lowest, bit_at-suc, bit_at-zero, bit_at_and, bit_at_or, bit_at-pow_same, bit_at-pow_other, bit_at_not, bit_at-trailing_zeros, bit_at-lt, bit_at_above}
-use Rattle.std.proofs.lemmas.Nat.{one_shl, pow_below}
+use Rattle.std.proofs.lemmas.Nat.Bits.{bit_at_lowest, bit_at-suc, bit_at-zero, bit_at_and, bit_at_or, bit_at-pow_same, bit_at-pow_other, bit_at-lt, bit_at_above}
+use Rattle.std.proofs.lemmas.Nat.{one_shl, pow_below, mod_below}
 use Rattle.std.proofs.lemmas.Bool.{both_ways, ne_eqb, eq-eqb, cases_lt, cases_eq, eqb-true, eqb-false, and_parts}
 use Rattle.std.proofs.lemmas.Bool.Decides.{nat_tests}
 use Rattle.bitset.specs.Sets.{has, many, Lowest}
@@ -59,18 +59,44 @@ pub has_past : (x p : ℕ) → x < 2 ^ 64 → 64 ≤ p → has x p ≡ false
 unfolding has
 has_past x p h l = ap (λ n. eqb n 1) (bit_at_above x 64 p h l)
 
-has_not : (x p : ℕ) → x < 2 ^ 64 → p < 64 → has (2 ^ 64 - 1 - x) p ≡ not (has x p)
+-- the lowest place, and the places above it
+pub digit : (x : ℕ) → has x 0 ≡ eqb (x % 2) 1
 unfolding has
-has_not x p h l = ap (λ n. eqb n 1) (bit_at_not w64 x p h l) ∙ other (bit_at x p) (bit_at-lt x p)
-  where
-    other : (n : ℕ) → n < 2 → eqb (1 - n) 1 ≡ not (eqb n 1)
-    other zero k = refl
-    other (suc zero) k = refl
-    other (suc (suc n)) k = absurd (omega arith)
+digit x = ap (λ n. eqb n 1) (bit_at_lowest x)
+
+pub has_half : (x p : ℕ) → has x (suc p) ≡ has (x / 2) p
+unfolding has
+has_half x p = ap (λ n. eqb n 1) (bit_at-suc x p)
+
+parity : (x : ℕ) → (x % 2 ≡ 0) ⊎ (x % 2 ≡ 1)
+parity x = elim (cases_lt (x % 2) 1) [
+  | inl l ↦ inl (omega arith)
+  | inr l ↦ inr (omega (arith, mod_below x 2 (omega arith)))
+]
+
+even_digit : (x : ℕ) → x % 2 ≡ 0 → has x 0 ≡ false
+even_digit x e = digit x ∙ ap (λ n. eqb n 1) e
+
+odd_digit : (x : ℕ) → x % 2 ≡ 1 → has x 0 ≡ true
+odd_digit x e = digit x ∙ ap (λ n. eqb n 1) e
+
+-- the greatest word of k digits less another has the places that the other has not
+pub has_not : (k x p : ℕ) → x < 2 ^ k → p < k → has (2 ^ k - 1 - x) p ≡ not (has x p)
+has_not (suc k) x zero h l =
+    let h' : x < 2 ^ k * 2 = rw (← pow-suc 2 k) h in
+    elim (parity x) [
+      | inl e ↦ odd_digit _ (rw pow-suc (omega (arith, h'))) ∙ ap not (sym (even_digit x e))
+      | inr e ↦ even_digit _ (rw pow-suc (omega (arith, h'))) ∙ ap not (sym (odd_digit x e))
+    ]
+has_not (suc k) x (suc p) h l =
+    let h' : x < 2 ^ k * 2 = rw (← pow-suc 2 k) h in
+    let half : (2 ^ suc k - 1 - x) / 2 ≡ 2 ^ k - 1 - x / 2 = rw pow-suc (omega arith) in
+    has_half (2 ^ suc k - 1 - x) p ∙ ap (λ n. has n p) half ∙ has_not k (x / 2) p (omega (arith, h')) (omega arith) ∙ ap not (sym (has_half x p))
+has_not zero x p h l = absurd (omega arith)
 
 pub has_minus : (x y p : ℕ) → x < 2 ^ 64 → y < 2 ^ 64 → has (bit_and x (2 ^ 64 - 1 - y)) p ≡ (has x p && not (has y p))
 has_minus x y p hx hy = has_and x (2 ^ 64 - 1 - y) p ∙ elim (cases_lt p 64) [
-  | inl l ↦ ap (λ b. has x p && b) (has_not y p hy l)
+  | inl l ↦ ap (λ b. has x p && b) (has_not 64 y p hy l)
   | inr l ↦ ap (λ b. b && has (2 ^ 64 - 1 - y) p) (has_past x p hx l) ∙ sym (ap (λ b. b && not (has y p)) (has_past x p hx l))
 ]
 
@@ -92,15 +118,22 @@ ones_many (suc k) x h =
     one (suc (suc n)) l = absurd (omega arith)
 
 -- what `trailing_zeros` finds: the lowest place of a set that has one
-pub trailing_lowest : (x : ℕ) → x < 2 ^ 64 → 0 < x → Lowest x 64 (count_trailing_zeros 64 x)
-unfolding has
-trailing_lowest x h l =
-    let low = bit_at-trailing_zeros w64 x l h in
-    record {
-      within = low.0;
-      there = ap (λ n. eqb n 1) low.1;
-      none_below = λ p k. ap (λ n. eqb n 1) (low.2 p k);
+pub trailing_lowest : (k x : ℕ) → x < 2 ^ k → 0 < x → Lowest x k (count_trailing_zeros k x)
+unfolding count_trailing_zeros
+trailing_lowest zero x h l = absurd (omega arith)
+trailing_lowest (suc k) x h l = go (parity x) (rw (← pow-suc 2 k) h) (trailing_lowest k (x / 2))
+  where
+    up : (t : ℕ) → x % 2 ≡ 0 → Lowest (x / 2) k t → Lowest x (suc k) (suc t)
+    up t e low = record {
+      within = omega (arith, low.within);
+      there = has_half x t ∙ low.there;
+      none_below = elim [ zero ↦ λ _. even_digit x e | suc p ↦ λ l. has_half x p ∙ low.none_below p (omega arith) ];
     }
+
+    go : (x % 2 ≡ 0) ⊎ (x % 2 ≡ 1) → x < 2 ^ k * 2 → (x / 2 < 2 ^ k → 0 < x / 2 → Lowest (x / 2) k (count_trailing_zeros k (x / 2)))
+        → Lowest x (suc k) (under (x % 2) (count_trailing_zeros k (x / 2)))
+    go (inl e) h' rest = rw e (up (count_trailing_zeros k (x / 2)) e (rest (omega (arith, h')) (omega arith)))
+    go (inr e) h' rest = rw e (record { within = omega arith; there = odd_digit x e; none_below = λ p l. absurd (omega arith) })
 
 -- places within a word, and past it
 pub place_within : (q p : ℕ) → q < 64 → (ltb p 64 && eqb p q) ≡ eqb p q
@@ -118,7 +151,7 @@ none_or_some x h = told (eqb x 0) refl
   where
     told : (b : Bool) → eqb x 0 ≡ b → MatchBool b (x ≡ 0) ((p : ℕ) × (has x p ≡ true))
     told true e = eqb-true x 0 e
-    told false e = (count_trailing_zeros 64 x, (trailing_lowest x h (omega (arith, eqb-false x 0 e))).there)
+    told false e = (count_trailing_zeros 64 x, (trailing_lowest 64 x h (omega (arith, eqb-false x 0 e))).there)
 
 -- the lowest place of the common part, or no common place
 pub common : (x y : ℕ) → x < 2 ^ 64 → y < 2 ^ 64
@@ -128,7 +161,7 @@ common x y hx hy = told (eqb (bit_and x y) 0) refl
     told : (b : Bool) → eqb (bit_and x y) 0 ≡ b → MatchBool (not b) ((p : ℕ) × (p < 64) × (has x p ≡ true) × (has y p ≡ true)) ((p : ℕ) → has x p ≡ true → has y p ≡ false)
     told true e = λ p h. ap (λ b. b && has y p) (sym h) ∙ sym (has_and x y p) ∙ ap (λ z. has z p) (eqb-true (bit_and x y) 0 e) ∙ has_none p
     told false e =
-        let low : Lowest (bit_and x y) 64 (count_trailing_zeros 64 (bit_and x y)) = trailing_lowest (bit_and x y) (and_lt 64 x y hx hy) (omega (arith, eqb-false (bit_and x y) 0 e)) in
+        let low : Lowest (bit_and x y) 64 (count_trailing_zeros 64 (bit_and x y)) = trailing_lowest 64 (bit_and x y) (and_lt 64 x y hx hy) (omega (arith, eqb-false (bit_and x y) 0 e)) in
         let t = count_trailing_zeros 64 (bit_and x y) in
         let both = and_parts (has x t) (has y t) (sym (has_and x y t) ∙ low.there) in
         (t, low.within, both.0, both.1)

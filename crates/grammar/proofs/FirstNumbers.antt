@@ -16,9 +16,13 @@ number_at [] p h = absurd (omega arith)
 number_at (a ∷ rest) zero h = refl
 number_at (a ∷ rest) (suc p) h = number_at rest p (omega arith)
 
+-- what stands at a place, when so many attributes were looked at
+abbrev pub first_before : ℕ → List Attribute → ℕ → ℕ
+first_before place attributes p = cond (ltb p place && given (get_or attributes p no_attribute).kind) 0 255
+
 -- what stands at a place
 abbrev pub first_at : List Attribute → ℕ → ℕ
-first_at attributes p = cond (ltb p (length attributes) && given (get_or attributes p no_attribute).kind) 0 255
+first_at attributes p = first_before (length attributes) attributes p
 
 module _ (attributes : List Attribute) (few : length attributes ≤ 64) where
   pub known : (p : ℕ) → p < length attributes → get_or (unnumbered attributes) p 0 ≡ cond (given (get_or attributes p no_attribute).kind) 0 255
@@ -54,3 +58,25 @@ pub numbers_first : (attributes : List Attribute) (numbers : List ℕ) → lengt
     → numbers ≡ unnumbered (take 64 attributes)
 numbers_first attributes numbers long each =
     numbers_whole (take 64 attributes) (omega (arith, length-take 64 attributes)) numbers long (λ p l. each p l ∙ first_at_take attributes p l)
+
+-- no attribute is looked at yet
+pub none_first : (attributes : List Attribute) (p : ℕ) → p < 64 → get_or (replicate 64 255) p 0 ≡ first_before 0 attributes p
+none_first attributes p h = get_or-replicate 64 p 255 0 h
+    ∙ sym (ap (λ b. cond (b && given (get_or attributes p no_attribute).kind) 0 255) (le-ltb p 0 (omega arith)))
+
+-- what stands at a place of the first 64, when these or all attributes were looked at
+first_all : (attributes : List Attribute) (place p : ℕ) → p < 64 → place ≤ length attributes → (place < 64 → length attributes ≤ place)
+    → first_before place attributes p ≡ first_at attributes p
+first_all attributes place p h inside all = ap (λ b. cond (b && given (get_or attributes p no_attribute).kind) 0 255) (elim (cases_lt p place) [
+  | inl l ↦ lt-ltb p place l ∙ sym (lt-ltb p (length attributes) (omega arith))
+  | inr l ↦
+      let past : length attributes ≤ place = all (omega arith) in
+      le-ltb p place l ∙ sym (le-ltb p (length attributes) (omega arith))
+])
+
+pub looked_at : (attributes : List Attribute) (place : ℕ) (numbers : List ℕ) → length numbers ≡ 64 → ((p : ℕ) → p < 64 → get_or numbers p 0 ≡ first_before place attributes p)
+    → place ≤ length attributes → (place < 64 → length attributes ≤ place)
+    → (numbers ≡ unnumbered (take 64 attributes)) × (length attributes ≤ 64 → numbers ≡ unnumbered attributes)
+looked_at attributes place numbers long each inside all =
+    let same : (p : ℕ) → p < 64 → get_or numbers p 0 ≡ first_at attributes p = λ p h. each p h ∙ first_all attributes place p h inside all in
+    (numbers_first attributes numbers long same, λ few. numbers_whole attributes few numbers long same)

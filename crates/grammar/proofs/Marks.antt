@@ -20,6 +20,10 @@ pub reach_append : (xs ys : List ℕ) (s : List Bool) → reach (xs ++ ys) s ≡
 reach_append [] ys s = refl
 reach_append (x ∷ xs) ys s = reach_append xs ys (set s x true)
 
+pub length-reach : (xs : List ℕ) (s : List Bool) → length (reach xs s) ≡ length s
+length-reach [] s = refl
+length-reach (x ∷ xs) s = length-reach xs (set s x true) ∙ length-set s x true
+
 pub fresh_append : (xs ys : List ℕ) (s : List Bool) → Fresh xs s → Fresh ys (reach xs s) → Fresh (xs ++ ys) s
 fresh_append [] ys s f h = h
 fresh_append (x ∷ xs) ys s f h = (f.0, f.1, fresh_append xs ys (set s x true) f.2 h)

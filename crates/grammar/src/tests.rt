@@ -1,5 +1,6 @@
-// Labels of arcs by their positions, first numbers by kind, and kinds by number.
-use super::{Attribute, AttributeKind, SymbolKind, arc_label, unnumbered};
+// Labels of arcs by their positions, first numbers by kind, kinds by number and as numbers, and copies of directions.
+use super::{Attribute, AttributeKind, Directions, SymbolKind, arc_label, unnumbered};
+use plans::Direction;
 use refusal::Unlisted;
 
 #[test]
@@ -73,4 +74,23 @@ fn kinds_by_number(rt: HostRuntime) {
     assert_eq!(rt; SymbolKind::try_from(3), Err(Unlisted(3)));
     assert_eq!(rt; AttributeKind::try_from(3), Ok(AttributeKind::Given));
     assert_eq!(rt; AttributeKind::try_from(0), Err(Unlisted(0)));
+}
+
+#[test]
+fn kinds_as_numbers(rt: HostRuntime) {
+    assert_eq!(rt; SymbolKind::Inner as u16, 0);
+    assert_eq!(rt; SymbolKind::Terminal as u16, 1);
+    assert_eq!(rt; AttributeKind::Inherited as u16, 0);
+    assert_eq!(rt; AttributeKind::Synthesized as u16, 1);
+    assert_eq!(rt; AttributeKind::Given as u16, 2);
+}
+
+#[test]
+fn directions_are_copied(rt: HostRuntime) {
+    let mut directions = Directions::new();
+    directions.push(Direction::Right);
+    let copy = directions;
+    directions.push(Direction::Left);
+    assert_eq!(rt; copy.as_slice().len(), 1);
+    assert_eq!(rt; directions.as_slice().len(), 2);
 }

@@ -8,15 +8,15 @@ pub const MOST_ATTRIBUTES: usize = 64;
 
 #[derive(Clone, Copy, PartialEq, Eq, Debug)]
 pub enum SymbolKind {
-    Inner = 1,
-    Terminal = 2,
+    Inner,
+    Terminal,
 }
 
 #[derive(Clone, Copy, PartialEq, Eq, Debug)]
 pub enum AttributeKind {
-    Inherited = 1,
-    Synthesized = 2,
-    Given = 3,
+    Inherited,
+    Synthesized,
+    Given,
 }
 
 // A symbol has `count` attributes, numbered in a row from `first` on, since attributes are numbered through all symbols.

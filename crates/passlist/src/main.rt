@@ -23,12 +23,18 @@ const LONGEST_PLAN: u16 = 128;
 // No listing is longer.
 const LONGEST_LISTING: usize = 1024;
 
-// Bytes past the longest table are read and let go: one too many is enough to have it refused.
+// Bytes past the longest table are read and let go: one too many is enough to have it refused. Without a first byte no
+// memory is taken.
 fn read_table(input: &mut impl Read, heap: Global) -> anyhow::Result<Vec<u8>> {
+    let mut first = [0u8; 1];
+    if input.read(&mut first)? == 0 {
+        return Ok(Vec::new(heap));
+    }
     // Room past all that is taken, so that the reads need no more memory.
     let mut bytes = Vec::with_capacity(heap, LONGEST_TABLE + 2)?;
-    let mut table = input.take(LONGEST_TABLE as u64 + 1);
-    if table.read_to_end(&mut bytes)? > LONGEST_TABLE {
+    bytes.push(first[0])?;
+    let mut table = input.take(LONGEST_TABLE as u64);
+    if table.read_to_end(&mut bytes)? == LONGEST_TABLE {
         io::copy(table.into_inner(), &mut io::sink())?;
     }
     Ok(bytes)

@@ -64,9 +64,10 @@ impl Plan for Written {
     }
 
     fn direction(&self, pass: u8) -> Option<Direction> {
+        if pass > self.passes() {
+            return None;
+        }
         let place = usize::from(pass).checked_sub(1)?;
-        let letters = &self.letters[..usize::from(self.passes())];
-        let letter = letters.get(place)?;
-        Direction::try_from(*letter).ok()
+        Direction::try_from(self.letters[place]).ok()
     }
 }

@@ -1,5 +1,5 @@
 -- What a book has under the number of a production, as parts of its grammar.
-use Rattle.std.proofs.Common.{◌≡◌, ℕ, zero, suc, ◌-◌, false, eqb, [], map, vec_items, refl, inl, inr, arith}
+use Rattle.std.proofs.Common.{◌≡◌, ℕ, zero, suc, ◌-◌, ◌<◌, false, eqb, [], length, map, get_or, vec_items, vec_len, sym, refl, ap, ◌∙◌, inl, inr, arith}
 use lib.ListN.{length-map}
 use Rattle.std.specs.Option.{option_map_or}
 use Rattle.std.proofs.lemmas.List.{get_or-map, get_or_past}
@@ -10,9 +10,18 @@ use Rattle.grammar.specs.declared.production.Production.{Production}
 use Rattle.grammar.specs.Grammar.{production_view}
 use Rattle.grammar.specs.Members.{numbered}
 use Rattle.grammar.specs.OfBook.{grammar_of}
-use Rattle.trees.specs.Checking.{no_production, is_production, children_symbols}
+use Rattle.trees.specs.Checking.{production, no_production, is_production, children_symbols}
 
 module _ (b : Book) where
+  pub productions_long : length (grammar_of b).productions ≡ vec_len b.productions
+  productions_long = length-map (vec_items b.productions) production_view ∙ sym b.productions.ok.0
+
+  pub production_is : (p : ℕ) (x : Production) → p - 1 < vec_len b.productions → x ≡ get_or (vec_items b.productions) (p - 1) x
+      → production (grammar_of b) p ≡ production_view x
+  production_is p x l e =
+      let k : p - 1 < length (vec_items b.productions) = omega (arith, b.productions.ok.0) in
+      get_or-map production_view (vec_items b.productions) (p - 1) x no_production k ∙ ap production_view (sym e)
+
   pub left_side : (p left : ℕ) → is_production (grammar_of b) left p ≡ option_map_or (λ (x : Production). eqb x.left left) (numbered (vec_items b.productions) p) false
   left_side zero left = refl
   left_side (suc n) left =

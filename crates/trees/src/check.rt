@@ -49,7 +49,8 @@ impl Row<'_> {
         if room == 0 {
             return Err(Refusal::TooDeep { node: n });
         }
-        let node = self.nodes[n as usize];
+        let nodes = self.nodes;
+        let node = nodes[n as usize];
         if node.symbol != symbol || !fitting::fits(book, symbol, node.production) {
             return Err(Refusal::BadNode { node: n });
         }
@@ -64,7 +65,7 @@ impl Row<'_> {
             self.reach(holder, index)?;
             self.check_subtree(book, index, *expected, room - 1)?;
             holder = index;
-            index = self.nodes[index as usize].next_brother;
+            index = nodes[index as usize].next_brother;
         }
         if index == 0 {
             Ok(())

@@ -1,15 +1,16 @@
--- Each attribute has its first number at its place.
-use Rattle.std.proofs.Common.{◌≡◌, ℕ, rules}
-use Rattle.grammar.proofs.Elements.{elements_are}
-use Rattle.grammar.proofs.FirstNumbers.{first_at, numbers_first, numbers_whole}
+-- After the last turn all attributes were looked at, or the first 64.
+use Rattle.std.proofs.Common.{arith}
+use Rattle.grammar.proofs.FirstNumbers.{looked_at}
 use Rattle.grammar.proofs.numbers.unnumbered.Goals as goal
 
-pub returns : goal.returns
-returns c =
-    let made = c.from_fn.ensures.items in
-    let P : ℕ → ℕ → Type 0 = λ p y. y ≡ first_at c.args.attributes.now p in
-    let each = elements_are _ _ P c.from_fn.result 0 64 made (λ p y q h called. search rules) in
-    record {
-      first = numbers_first c.args.attributes.now c.from_fn.result made.long each;
-      whole = λ few. numbers_whole c.args.attributes.now few c.from_fn.result made.long each;
-    }
+pub returns-after-loop-place : goal.returns-after-loop-place
+returns-after-loop-place c =
+    let inv = c.loop-place.invariant in
+    let both = looked_at c.args.attributes.now c.loop-place.place c.loop-place.numbers inv.0 inv.2 (omega arith) (λ _. omega arith) in
+    record { first = both.0; whole = both.1 }
+
+pub returns-then-place-eq-MOST_ATTRIBUTES : goal.returns-then-place-eq-MOST_ATTRIBUTES
+returns-then-place-eq-MOST_ATTRIBUTES c =
+    let inv = c.loop-place.invariant in
+    let both = looked_at c.args.attributes.now c.loop-place.place c.loop-place.numbers inv.0 inv.2 (omega arith) (λ l. omega arith) in
+    record { first = both.0; whole = both.1 }

@@ -45,8 +45,8 @@ loop-expected-preserved t c =
     let reached = rw c.loop-expected.invariant.0 at c.in_ok-reach.ensures.reached in
     let checked = rw (c.in_ok-reach.ensures.nodes, c.loop-expected.invariant.0) at c.in_ok-check_subtree.ensures.reached in (
       same,
-      rw same (more _ _ _ _ _ _ _ _ _ _ c.loop-expected.invariant.1 c.loop-expected-test.true c.if-index-eq0.false
-          c.reach.new.self.reached reached c.check_subtree.new.self.reached checked),
+      more _ _ _ _ _ _ _ _ _ _ c.loop-expected.invariant.1 c.loop-expected-test.true c.if-index-eq0.false
+          c.reach.new.self.reached reached c.check_subtree.new.self.reached checked,
     )
 
 pub returns-then-index-eq0-2-clause-reached : goal.returns-then-index-eq0-2-clause-reached
