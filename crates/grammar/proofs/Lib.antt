@@ -1,6 +1,5 @@
 pub mod Bits
 pub mod Boards
-pub mod Elements
 pub mod FirstNumbers
 pub mod FoundRules
 pub mod Labels

@@ -13,7 +13,6 @@ use plans::Direction;
 use plans::alternating::Alternating;
 use refusal::Refusal;
 use std::alloc::Global;
-use std::io;
 use std::io::{Read, Write};
 
 const LONGEST_TABLE: usize = 49152;
@@ -23,19 +22,19 @@ const LONGEST_PLAN: u16 = 128;
 // No listing is longer.
 const LONGEST_LISTING: usize = 1024;
 
-// Bytes past the longest table are read and let go: one too many is enough to have it refused. Without a first byte no
-// memory is taken.
+// Bytes past the longest table are read and let go: one too many is enough to have it refused. By hand, as std's readers
+// take memory before a byte is there, or tell the want of it otherwise, and take more of a message at once.
 fn read_table(input: &mut impl Read, heap: Global) -> anyhow::Result<Vec<u8>> {
-    let mut first = [0u8; 1];
-    if input.read(&mut first)? == 0 {
-        return Ok(Vec::new(heap));
-    }
-    // Room past all that is taken, so that the reads need no more memory.
-    let mut bytes = Vec::with_capacity(heap, LONGEST_TABLE + 2)?;
-    bytes.push(first[0])?;
-    let mut table = input.take(LONGEST_TABLE as u64);
-    if table.read_to_end(&mut bytes)? == LONGEST_TABLE {
-        io::copy(table.into_inner(), &mut io::sink())?;
+    let mut bytes = Vec::new(heap);
+    for _ in 0..u64::MAX {
+        let mut chunk = [0u8; 4096];
+        let count = input.read(&mut chunk)?;
+        if count == 0 {
+            break;
+        }
+        if bytes.len() <= LONGEST_TABLE {
+            bytes.extend_from_slice(&chunk[..count])?;
+        }
     }
     Ok(bytes)
 }

@@ -49,6 +49,7 @@ impl Row<'_> {
         if room == 0 {
             return Err(Refusal::TooDeep { node: n });
         }
+        // Named once: through the row its place would be read again at each step.
         let nodes = self.nodes;
         let node = nodes[n as usize];
         if node.symbol != symbol || !fitting::fits(book, symbol, node.production) {
